@@ -1,0 +1,5 @@
+use Rattle.rb_frac.proofs.solvable_law.Goals as goal
+use Rattle.rb_frac.proofs.Transfer.{solvable}
+
+pub returns : goal.returns
+returns c = solvable
