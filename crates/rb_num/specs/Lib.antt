@@ -1,0 +1,9 @@
+pub mod Interval
+pub mod Fraction
+pub mod Dot
+pub mod Quotient
+pub mod Hull
+pub mod Refusing
+pub mod Arith
+pub mod Least
+pub mod Sine

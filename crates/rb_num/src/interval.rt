@@ -1,0 +1,436 @@
+ghost use Rattle.std.specs.Prelude.{◌≡◌, ℤ, pos, ◌≤ℤ◌, ◌*ℤ◌, ◌≤◌, ◌↔◌, IsTrue, IfOk, IfErr, IfSome, OkIff, SomeIff, ◌≢◌, length, Result, Err};
+ghost use Rattle.rb_num.specs.Interval.{Interval, IsInterval, IsWithin, EndsFit, interval, sum_of, difference_of, negative_of};
+ghost use Rattle.std.specs.Int.{int_min, int_max};
+ghost use Rattle.rb_num.specs.Refusing.{iv_add, iv_sub, iv_div};
+ghost use Rattle.rb_num.specs.Fraction.{EnclosesNegative, EnclosesSum, EnclosesDifference, EnclosesDot, EnclosesHull, EnclosesMeet, IsWithinBoth, EnclosesQuotient};
+ghost use Rattle.rb_num.specs.Dot.{ProductsFit, DotFits, least_product, greatest_product, dot_of, iv_dot};
+ghost use Rattle.rb_num.specs.Least.{IsLeast, HasSums, HasQuotients, HasBoth};
+ghost use Rattle.rb_num.specs.Hull.{hull_of, meet_of, Meet};
+ghost use Rattle.rb_num.specs.Quotient.{HasZero, floor_quotient as floor_quotient_of, ceil_quotient as ceil_quotient_of, quotient_of, quotients_of, QuotientFits, IsQuotientFault};
+
+use std::marker::Model;
+
+/// The grid: `S` units make one. Each end of an interval counts units.
+pub const S: i128 = 1_000_000_000_000;
+
+/// The limit, 2^120 units: no end of an interval, and no product on the way to one, is larger in
+/// size.
+pub const B: i128 = 1_329_227_995_784_915_872_903_807_060_280_344_576;
+
+/// Why an operation on intervals is refused.
+#[derive(Clone, Copy, Debug, PartialEq, Eq)]
+pub enum NumFault {
+    /// An end, or a product on the way to it, is larger in size than the limit `B`.
+    Size,
+    /// Zero lies in the divisor.
+    Zero,
+}
+
+/// An interval: the fractions `x` with `lo <= x * S <= hi`, ends included.
+///
+/// The ends are in order, and at most `B` in size. Each operation answers an interval in which the
+/// results for all fractions in its arguments lie.
+#[derive(Clone, Copy, Debug, PartialEq, Eq)]
+pub struct Iv {
+    lo: i128,
+    hi: i128,
+}
+
+impl Model for Iv {
+    ghost use Rattle.rb_num.specs.Interval.{Interval, IsInterval};
+
+    ghost Value = { Interval };
+
+    ghost view = { λ a. record { lo = a.lo; hi = a.hi } };
+
+    ghost invariant = { λ a. IsInterval a.lo a.hi };
+
+    ghost inverse = { λ v. record { lo = v.lo; hi = v.hi } };
+}
+
+fn is_within(z: i128) -> bool
+    ensures { IsTrue result ↔ IsWithin z }
+{
+    -B <= z && z <= B
+}
+
+// The interval with these ends, where they are within the limit.
+fn checked(lo: i128, hi: i128) -> Result<Iv, NumFault>
+    requires { lo ≤ℤ hi }
+    ensures exact { OkIff result (EndsFit (interval lo hi)) (interval lo hi) }
+    ensures fault { IfErr result (λ e. e ≡ NumFault.Size) }
+{
+    if is_within(lo) && is_within(hi) {
+        Ok(Iv { lo, hi })
+    } else {
+        Err(NumFault::Size)
+    }
+}
+
+// The product, where it is within the limit.
+fn product(x: i128, y: i128) -> Result<i128, NumFault>
+    ensures exact { OkIff result (IsWithin (x *ℤ y)) (x *ℤ y) }
+    ensures fault { IfErr result (λ e. e ≡ NumFault.Size) }
+{
+    match x.checked_mul(y) {
+        Some(z) if is_within(z) => Ok(z),
+        _ => Err(NumFault::Size),
+    }
+}
+
+fn least(a: i128, b: i128, c: i128, d: i128) -> i128
+    ensures { result ≡ int_min (int_min a b) (int_min c d) }
+{
+    a.min(b).min(c.min(d))
+}
+
+fn greatest(a: i128, b: i128, c: i128, d: i128) -> i128
+    ensures { result ≡ int_max (int_max a b) (int_max c d) }
+{
+    a.max(b).max(c.max(d))
+}
+
+// The least and the greatest product of an end of `a` and an end of `b`.
+fn product_ends(a: Iv, b: Iv) -> Result<(i128, i128), NumFault>
+    ensures exact { OkIff result (ProductsFit (a, b)) (least_product (a, b), greatest_product (a, b)) }
+    ensures fault { IfErr result (λ e. e ≡ NumFault.Size) }
+{
+    let lo_lo = product(a.lo, b.lo)?;
+    let lo_hi = product(a.lo, b.hi)?;
+    let hi_lo = product(a.hi, b.lo)?;
+    let hi_hi = product(a.hi, b.hi)?;
+    Ok((
+        least(lo_lo, lo_hi, hi_lo, hi_hi),
+        greatest(lo_lo, lo_hi, hi_lo, hi_hi),
+    ))
+}
+
+// `z / d`, rounded down.
+#[tactic(auto, using(crate::proofs::Quotient::floor_within))]
+fn floor_quotient(z: i128, d: i128) -> i128
+    requires small { IsWithin z }
+    requires small_divisor { IsWithin d }
+    requires divisor { d ≢ pos 0 }
+    ensures value { result ≡ floor_quotient_of z d }
+    ensures within { IsWithin result }
+{
+    if 0 < d {
+        z.div_euclid(d)
+    } else {
+        (-z).div_euclid(-d)
+    }
+}
+
+// `z / d`, rounded up.
+#[tactic(auto, using(crate::proofs::Quotient::ceil_within))]
+fn ceil_quotient(z: i128, d: i128) -> i128
+    requires small { IsWithin z }
+    requires small_divisor { IsWithin d }
+    requires divisor { d ≢ pos 0 }
+    ensures value { result ≡ ceil_quotient_of z d }
+    ensures within { IsWithin result }
+{
+    -floor_quotient(-z, d)
+}
+
+// The quotients of both numbers by both divisors, rounded outwards.
+fn quotients(low: i128, high: i128, by_low: i128, by_high: i128) -> Iv
+    requires small { IsWithin low × IsWithin high × IsWithin by_low × IsWithin by_high }
+    requires divisors { (by_low ≢ pos 0) × (by_high ≢ pos 0) }
+    ensures { result ≡ quotients_of low high by_low by_high }
+{
+    let lo = least(
+        floor_quotient(low, by_low),
+        floor_quotient(low, by_high),
+        floor_quotient(high, by_low),
+        floor_quotient(high, by_high),
+    );
+    let hi = greatest(
+        ceil_quotient(low, by_low),
+        ceil_quotient(low, by_high),
+        ceil_quotient(high, by_low),
+        ceil_quotient(high, by_high),
+    );
+    Iv { lo, hi }
+}
+
+/// The sum of the products of the pairs, of which there are at most 64.
+///
+/// With `L` the sum of each pair's least product of ends, and `H` that of the greatest, it is the
+/// least interval with `lo * S <= L` and `hi * S >= H`: only the two sums are rounded. It is refused with `Size` exactly where a product of an end of a pair's first interval
+/// and an end of its second is larger in size than `B`, and never with `Zero`.
+pub fn dot(pairs: &[(Iv, Iv)]) -> Result<Iv, NumFault>
+    requires { length pairs.now ≤ 64 }
+    ensures exact { result ≡ iv_dot pairs.now }
+    ensures value { OkIff result (DotFits pairs.now) (dot_of pairs.now) }
+    ensures least { IfOk result (IsLeast (HasSums pairs.now)) }
+    ensures encloses { IfOk result (EnclosesDot pairs.now) }
+    ensures fault { IfErr result (λ e. e ≡ NumFault.Size) }
+{
+    let mut low: i128 = 0;
+    let mut high: i128 = 0;
+    for pair in pairs {
+        let (least, greatest) = product_ends(pair.0, pair.1)?;
+        low += least;
+        high += greatest;
+    }
+    Ok(Iv {
+        lo: low.div_euclid(S),
+        hi: -(-high).div_euclid(S),
+    })
+}
+
+impl Iv {
+    /// Zero alone.
+    pub const ZERO: Iv = Iv { lo: 0, hi: 0 };
+
+    /// One alone.
+    pub const ONE: Iv = Iv { lo: S, hi: S };
+
+    /// The interval with these ends, in units.
+    pub fn new(lo: i128, hi: i128) -> Iv
+        requires { IsInterval lo hi }
+        ensures { result ≡ interval lo hi }
+    {
+        Iv { lo, hi }
+    }
+
+    /// The lower end, in units.
+    pub fn lo(self) -> i128
+        ensures value { result ≡ self.lo }
+        ensures bounds { IsInterval self.lo self.hi }
+    {
+        self.lo
+    }
+
+    /// The upper end, in units.
+    pub fn hi(self) -> i128
+        ensures value { result ≡ self.hi }
+        ensures bounds { IsInterval self.lo self.hi }
+    {
+        self.hi
+    }
+
+    /// The negatives. Nothing is rounded.
+    pub fn neg(self) -> Iv
+        ensures exact { result ≡ negative_of self }
+        ensures encloses { EnclosesNegative self result }
+    {
+        Iv {
+            lo: -self.hi,
+            hi: -self.lo,
+        }
+    }
+
+    /// Whether zero lies in it.
+    pub fn has_zero(self) -> bool
+        ensures { IsTrue result ↔ HasZero self }
+    {
+        self.lo <= 0 && 0 <= self.hi
+    }
+
+    /// The least interval in which both lie.
+    pub fn hull(self, other: Iv) -> Iv
+        ensures exact { result ≡ hull_of self other }
+        ensures least { IsLeast (HasBoth self other) result }
+        ensures encloses { EnclosesHull self other result }
+    {
+        Iv {
+            lo: self.lo.min(other.lo),
+            hi: self.hi.max(other.hi),
+        }
+    }
+
+    /// The common part: `None` exactly where no fraction lies in both.
+    pub fn meet(self, other: Iv) -> Option<Iv>
+        ensures exact { SomeIff result (Meet self other) (meet_of self other) }
+        ensures within { IfSome result (IsWithinBoth self other) }
+        ensures encloses { EnclosesMeet self other result }
+    {
+        if self.lo <= other.hi && other.lo <= self.hi {
+            Some(Iv {
+                lo: self.lo.max(other.lo),
+                hi: self.hi.min(other.hi),
+            })
+        } else {
+            None
+        }
+    }
+
+    /// The quotients: the least interval in which the four exact quotients of ends lie.
+    ///
+    /// It is refused with `Zero` exactly where zero lies in `by`, and else with `Size` exactly where
+    /// an end of `self` times `S` is larger in size than `B`.
+    pub fn div(self, by: Iv) -> Result<Iv, NumFault>
+        ensures exact { result ≡ iv_div self by }
+        ensures value { OkIff result (QuotientFits self by) (quotient_of self by) }
+        ensures least { IfOk result (IsLeast (HasQuotients self by)) }
+        ensures encloses { IfOk result (EnclosesQuotient self by) }
+        ensures zero { (result ≡ Err NumFault.Zero) ↔ HasZero by }
+        ensures fault { IfErr result (IsQuotientFault by) }
+    {
+        if by.has_zero() {
+            return Err(NumFault::Zero);
+        }
+        let low = product(self.lo, S)?;
+        let high = product(self.hi, S)?;
+        Ok(quotients(low, high, by.lo, by.hi))
+    }
+
+    /// The sums. Nothing is rounded.
+    ///
+    /// It is refused with `Size` exactly where an end of the sum is larger in size than `B`, and
+    /// never with `Zero`.
+    pub fn add(self, other: Iv) -> Result<Iv, NumFault>
+        ensures exact { result ≡ iv_add self other }
+        ensures value { OkIff result (EndsFit (sum_of self other)) (sum_of self other) }
+        ensures encloses { IfOk result (EnclosesSum self other) }
+        ensures fault { IfErr result (λ e. e ≡ NumFault.Size) }
+    {
+        checked(self.lo + other.lo, self.hi + other.hi)
+    }
+
+    /// The differences. Nothing is rounded.
+    ///
+    /// It is refused with `Size` exactly where an end of the difference is larger in size than `B`,
+    /// and never with `Zero`.
+    pub fn sub(self, other: Iv) -> Result<Iv, NumFault>
+        ensures exact { result ≡ iv_sub self other }
+        ensures value { OkIff result (EndsFit (difference_of self other)) (difference_of self other) }
+        ensures encloses { IfOk result (EnclosesDifference self other) }
+        ensures fault { IfErr result (λ e. e ≡ NumFault.Size) }
+    {
+        checked(self.lo - other.hi, self.hi - other.lo)
+    }
+}
+
+#[cfg(test)]
+mod tests {
+    use super::*;
+
+    // The expected ends were worked out elsewhere, with exact fractions.
+    #[test]
+    fn vectors(rt: HostRuntime) {
+        assert_eq!(rt;
+            dot(&[(
+                Iv::new(-424789534573499, -192650336583527),
+                Iv::new(87935342415445545, 99007755457121847)
+            )]),
+            Ok(Iv::new(-42057458359797595116, -16940773313923282387))
+        );
+        assert_eq!(rt;
+            dot(&[
+                (
+                    Iv::new(193545308143008, 892293995717359),
+                    Iv::new(-85054318476447147, -28215458751196300)
+                ),
+                (
+                    Iv::new(-646799495075269, -162798718643978),
+                    Iv::new(-70607878600660632, 9745997543859624)
+                )
+            ]),
+            Ok(Iv::new(-82197163976739035695, 40208170568846568282))
+        );
+        assert_eq!(rt;
+            dot(&[
+                (
+                    Iv::new(-438555115040955, 646475769246617),
+                    Iv::new(-47520265856210915, 17641530285202082)
+                ),
+                (
+                    Iv::new(-123063173638843, 953346471959585),
+                    Iv::new(-79267085631892649, 78105095995933418)
+                ),
+                (
+                    Iv::new(-702220783264666, 1683514646091),
+                    Iv::new(-98468591308217942, -52195132875345097)
+                )
+            ]),
+            Ok(Iv::new(-106455470169528202294, 164448164684560262476))
+        );
+        assert_eq!(rt;
+            dot(&[
+                (
+                    Iv::new(-625110032605824, -293721450387619),
+                    Iv::new(-42674053758489614, 80354449993518148)
+                ),
+                (
+                    Iv::new(-590920665403861, -556666214455017),
+                    Iv::new(-93782810217452048, 10456654202159410)
+                ),
+                (
+                    Iv::new(-405949562603420, -65714212802166),
+                    Iv::new(-4349458835636480, 68943717999536815)
+                ),
+                (
+                    Iv::new(342022675707725, 593547447671114),
+                    Iv::new(-80970325605062471, 2423052806612775)
+                )
+            ]),
+            Ok(Iv::new(-132456828180658685021, 85298037474358458629))
+        );
+        assert_eq!(rt;
+            dot(&[
+                (
+                    Iv::new(-310804557338982, 568197703769541),
+                    Iv::new(-46742739180728001, 36199904718561503)
+                ),
+                (
+                    Iv::new(-603412578258350, -423129812755213),
+                    Iv::new(3083882658828545, 16529836533095738)
+                ),
+                (
+                    Iv::new(-56881928030298, 236383723164392),
+                    Iv::new(8479944777942025, 30517128382182933)
+                ),
+                (
+                    Iv::new(404476557671758, 593729420250871),
+                    Iv::new(-65694660843716991, -29070312667746029)
+                ),
+                (
+                    Iv::new(40794880952518, 845336691565590),
+                    Iv::new(-27684740030473264, 47716919064619032)
+                )
+            ]),
+            Ok(Iv::new(-100677080891870670416, 55056174968536254107))
+        );
+        assert_eq!(rt;
+            dot(&[(
+                Iv::new(0, 1152921504606846976),
+                Iv::new(-1152921504606846977, 5)
+            )]),
+            Err(NumFault::Size)
+        );
+        assert_eq!(rt;
+            dot(&[(
+                Iv::new(0, 1152921504606846976),
+                Iv::new(-1152921504606846976, 5)
+            )]),
+            Ok(Iv::new(-1329227995784915872903808, 5764608))
+        );
+        assert_eq!(rt;
+            Iv::new(-5, 7).div(Iv::new(2, 3)),
+            Ok(Iv::new(-2500000000000, 3500000000000))
+        );
+        assert_eq!(rt;
+            Iv::new(-5, 7).div(Iv::new(-3, -2)),
+            Ok(Iv::new(-3500000000000, 2500000000000))
+        );
+        assert_eq!(rt;
+            Iv::new(100000000000000000000, 1000000000000000000000).div(Iv::new(
+                -10000000000000,
+                -7
+            )),
+            Ok(Iv::new(-142857142857142857142857142857143, -10000000000000000000))
+        );
+        assert_eq!(rt; Iv::new(1, 2).div(Iv::new(-1, 1)), Err(NumFault::Zero));
+        assert_eq!(rt;
+            Iv::new(0, 2417851639229258349412352).div(Iv::new(1, 1)),
+            Err(NumFault::Size)
+        );
+        assert_eq!(rt;
+            Iv::new(3, 3).div(Iv::new(7, 7)),
+            Ok(Iv::new(428571428571, 428571428572))
+        );
+    }
+}

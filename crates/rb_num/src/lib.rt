@@ -1,0 +1,13 @@
+//! Intervals of whole multiples of one part in 10^12, with arithmetic that encloses.
+//!
+//! An `Iv` stands for the exact fractions between its ends. Every operation rounds outwards, so that
+//! its result has in it the results of all fractions in its arguments, and it is refused rather than
+//! wrapped where a number on the way is larger than 2^120 units. The fractions, their arithmetic and
+//! its laws stand in `rb_frac`.
+#![tactic(auto)]
+
+mod interval;
+mod laws;
+
+pub use interval::{B, Iv, NumFault, S, dot};
+pub use laws::{cut_law, lies_in_law, sine_law};
