@@ -1,0 +1,6 @@
+pub mod Spans
+pub mod Digits
+pub mod Rounding
+pub mod Grammar
+pub mod Outcomes
+pub mod Ends
