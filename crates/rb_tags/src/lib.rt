@@ -1,0 +1,18 @@
+//! Tag lists: the elements of an XML file, in file order.
+#![tactic(auto)]
+
+mod bytes;
+mod laws;
+mod marks;
+mod read;
+mod reader;
+mod tag;
+mod text;
+
+pub use laws::tags_by_grammar;
+pub use read::{TagFault, TagKind, read_tags};
+pub use tag::{Attr, AttrList, Tag, Tags};
+pub use text::Text;
+
+#[cfg(test)]
+mod tests;
