@@ -1,0 +1,9 @@
+pub mod Causes
+pub mod Held
+pub mod MemFiles
+pub mod MemInputs
+pub mod MemSink
+pub mod NoFaultsInputs
+pub mod NoFaultsSink
+pub mod Parts
+pub mod Pieces

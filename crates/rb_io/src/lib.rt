@@ -1,0 +1,24 @@
+//! Sources and sinks of bytes: what is read, what is written, and a count of the calls that failed.
+//!
+//! The forms in memory tell their bytes. The adapters over the machine's files and streams tell
+//! none, and are trusted.
+#![tactic(auto)]
+
+mod calls;
+mod host;
+mod inputs;
+mod mem_bytes;
+mod mem_file;
+mod mem_files;
+mod memory;
+mod outside;
+mod tally;
+
+pub use calls::{Bytes, FileFault, put_all, read_all};
+pub use host::{FileInputs, StdSink};
+pub use inputs::{MemInputs, NoFaultsInputs};
+pub use memory::{MemSink, NoFaultsSink};
+pub use outside::{Failed, Inputs, Sink};
+
+#[cfg(test)]
+mod tests;
