@@ -1,0 +1,19 @@
+//! What is wrong with the fields of a row.
+
+/// What is wrong with a field, or with their number.
+#[derive(Clone, Copy, Debug, PartialEq, Eq)]
+pub enum FieldKind {
+    /// There are more or fewer fields than sliders.
+    Count,
+    /// A field is not empty and is not a number.
+    NotNumber,
+    /// A field's number is above the limit of numbers.
+    TooLarge,
+}
+
+/// A field fault: of `Count` the number of fields that were found, and else the first bad field, numbered from 1.
+#[derive(Clone, Copy, Debug, PartialEq, Eq)]
+pub struct FieldFault {
+    pub kind: FieldKind,
+    pub field: u32,
+}

@@ -1,0 +1,248 @@
+//! Runs over inputs and sinks in memory. The expected lines were worked out by hand, with exact fractions.
+use crate::run::run;
+use crate::status::Status;
+use rb_io::{MemInputs, MemSink};
+use std::alloc::{AllocError, Global};
+use std::test::Fail;
+
+const LIFT: &[u8] =
+    br#"<robot name="lift"><link name="base"/><link name="car"><inertial><mass value="2"/></inertial></link><joint name="lift" type="prismatic"><parent link="base"/><child link="car"/><axis xyz="0 0 1"/></joint></robot>"#;
+
+const FIRST: &[u8] = b"row,answer,cause,tau.lift\n";
+
+// How a run ended, and what it put.
+#[derive(Drop)]
+struct Ran {
+    status: Status,
+    out: MemSink,
+    err: MemSink,
+}
+
+fn words_of(alloc: Global) -> Result<Vec<String>, AllocError> {
+    let mut words = Vec::new(alloc);
+    words.push(String::from_str(alloc, "rbd")?)?;
+    words.push(String::from_str(alloc, "--task")?)?;
+    words.push(String::from_str(alloc, "rnea")?)?;
+    words.push(String::from_str(alloc, "--urdf")?)?;
+    words.push(String::from_str(alloc, "robot.urdf")?)?;
+    Ok(words)
+}
+
+// Runs over these bytes; the calls of these numbers fail.
+fn run_failing(
+    alloc: Global,
+    robot: &[u8],
+    rows: &[u8],
+    reads: &[u64],
+    writes: &[u64],
+) -> Result<Ran, AllocError> {
+    let words = words_of(alloc)?;
+    let mut inputs = MemInputs::new(alloc, 4096, reads)?;
+    inputs.add("robot.urdf", robot)?;
+    inputs.add("-", rows)?;
+    let mut out = MemSink::new(alloc, 10_000, 100, writes)?;
+    let mut err = MemSink::new(alloc, 100, 7, &[])?;
+    let status = run(alloc, words.as_slice(), &mut inputs, &mut out, &mut err);
+    Ok(Ran { status, out, err })
+}
+
+fn run_over(alloc: Global, robot: &[u8], rows: &[u8]) -> Result<Ran, AllocError> {
+    run_failing(alloc, robot, rows, &[], &[])
+}
+
+// The robot `lift` with another mass.
+fn lift_of(alloc: Global, mass: &[u8]) -> Result<Vec<u8>, AllocError> {
+    let mut text = Vec::from_slice(
+        alloc,
+        br#"<robot name="lift"><link name="base"/><link name="car"><inertial><mass value=""#,
+    )?;
+    text.extend_from_slice(mass)?;
+    text.extend_from_slice(
+        br#""/></inertial></link><joint name="lift" type="prismatic"><parent link="base"/><child link="car"/><axis xyz="0 0 1"/></joint></robot>"#,
+    )?;
+    Ok(text)
+}
+
+// A chain of so many sliders along x, without masses.
+fn tower_of(alloc: Global, sliders: usize) -> Result<Vec<u8>, AllocError> {
+    let mut text = Vec::from_slice(alloc, br#"<robot name="tower"><link name="l0"/>"#)?;
+    for k in 0..sliders {
+        let link = format!(in alloc; "<link name=\"l{}\"/>", k as u64 + 1)?;
+        text.extend_from_slice(link.as_str().as_bytes())?;
+    }
+    for k in 0..sliders {
+        let joint = format!(in alloc;
+            "<joint name=\"j{}\" type=\"prismatic\"><parent link=\"l{}\"/><child link=\"l{}\"/><axis xyz=\"1 0 0\"/></joint>",
+            k as u64,
+            k as u64,
+            k as u64 + 1
+        )?;
+        text.extend_from_slice(joint.as_str().as_bytes())?;
+    }
+    text.extend_from_slice(b"</robot>")?;
+    Ok(text)
+}
+
+#[test]
+fn a_row_is_answered(rt: HostRuntime) -> Result<(), Fail> {
+    let ran = run_over(rt.alloc(), LIFT, b"a.lift\n1.5\n")?;
+    assert_eq!(rt; ran.status, Status::Done);
+    assert_eq!(rt;
+        ran.out.bytes(),
+        b"row,answer,cause,tau.lift\n1,ok,,22.620000000000..22.620000000000\n".as_slice()
+    );
+    assert_eq!(rt; ran.err.bytes(), b"".as_slice());
+    Ok(())
+}
+
+#[test]
+fn no_row(rt: HostRuntime) -> Result<(), Fail> {
+    let ran = run_over(rt.alloc(), LIFT, b"a.lift\n")?;
+    assert_eq!(rt; ran.status, Status::Done);
+    assert_eq!(rt; ran.out.bytes(), FIRST);
+    Ok(())
+}
+
+#[test]
+fn no_header(rt: HostRuntime) -> Result<(), Fail> {
+    for rows in [
+        b"".as_slice(),
+        b"\n\r\n".as_slice(),
+        b"v.lift\n0\n".as_slice(),
+    ] {
+        let ran = run_over(rt.alloc(), LIFT, rows)?;
+        assert_eq!(rt; ran.status, Status::Rows);
+        assert_eq!(rt; ran.out.bytes(), b"".as_slice());
+        assert_eq!(rt;
+            ran.err.bytes(),
+            b"rbd: rows: BadHeader at field 0\n".as_slice()
+        );
+    }
+    Ok(())
+}
+
+#[test]
+fn the_thirteenth_digit_counts(rt: HostRuntime) -> Result<(), Fail> {
+    let robot = lift_of(rt.alloc(), b"0.1234567890123")?;
+    let ran = run_over(rt.alloc(), robot.as_slice(), b"a.lift\n1\n")?;
+    assert_eq!(rt; ran.status, Status::Done);
+    assert_eq!(rt;
+        ran.out.bytes(),
+        b"row,answer,cause,tau.lift\n1,ok,,1.334567889219..1.334567889231\n".as_slice()
+    );
+    Ok(())
+}
+
+#[test]
+fn a_turning_joint_is_unbuilt(rt: HostRuntime) -> Result<(), Fail> {
+    let arm =
+        br#"<robot name="arm"><link name="base"/><link name="rod"><inertial><origin xyz="0 0 -1"/><mass value="1"/></inertial></link><joint name="hinge" type="revolute"><parent link="base"/><child link="rod"/><axis xyz="0 1 0"/></joint></robot>"#;
+    let ran = run_over(rt.alloc(), arm, b"a.hinge\n0\n")?;
+    assert_eq!(rt; ran.status, Status::Robot);
+    assert_eq!(rt; ran.out.bytes(), b"".as_slice());
+    assert_eq!(rt; ran.err.bytes(), b"rbd: urdf: Unbuilt at 0\n".as_slice());
+    Ok(())
+}
+
+#[test]
+fn sizes_are_refused(rt: HostRuntime) -> Result<(), Fail> {
+    let heavy = lift_of(rt.alloc(), b"1000000000000")?;
+    let lifted = run_over(rt.alloc(), heavy.as_slice(), b"a.lift\n1000000000000\n")?;
+    assert_eq!(rt; lifted.status, Status::Refused);
+    assert_eq!(rt;
+        lifted.out.bytes(),
+        b"row,answer,cause,tau.lift\n1,size,b[2],\n".as_slice()
+    );
+    let tower = tower_of(rt.alloc(), 3)?;
+    let rows = b"a.j0,a.j1,a.j2\n1000000000000,1000000000000,1000000000000\n";
+    let raised = run_over(rt.alloc(), tower.as_slice(), rows)?;
+    assert_eq!(rt; raised.status, Status::Refused);
+    assert_eq!(rt;
+        raised.out.bytes(),
+        b"row,answer,cause,tau.j0,tau.j1,tau.j2\n1,size,a[4],,,\n".as_slice()
+    );
+    Ok(())
+}
+
+#[test]
+fn fields_are_refused(rt: HostRuntime) -> Result<(), Fail> {
+    let ran = run_over(
+        rt.alloc(),
+        LIFT,
+        b"a.lift\r\n1.5,0\r\n\r\nx\n2000000000000\n1e3\n1..2\n+.5",
+    )?;
+    assert_eq!(rt; ran.status, Status::Refused);
+    assert_eq!(rt;
+        ran.out.bytes(),
+        b"row,answer,cause,tau.lift\n1,field,Count[2],\n2,field,NotNumber[1],\n3,field,TooLarge[1],\n4,field,NotNumber[1],\n5,field,NotNumber[1],\n6,ok,,20.620000000000..20.620000000000\n".as_slice()
+    );
+    assert_eq!(rt; ran.err.bytes(), b"".as_slice());
+    Ok(())
+}
+
+#[test]
+fn a_read_fails(rt: HostRuntime) -> Result<(), Fail> {
+    // the robot is opened and read in two calls, the rows are opened by the fourth
+    let ran = run_failing(rt.alloc(), LIFT, b"a.lift\n1.5\n", &[5], &[])?;
+    assert_eq!(rt; ran.status, Status::InputFault);
+    assert_eq!(rt; ran.out.bytes(), b"".as_slice());
+    assert_eq!(rt; ran.err.bytes(), b"rbd: input failed\n".as_slice());
+    Ok(())
+}
+
+#[test]
+fn a_write_fails(rt: HostRuntime) -> Result<(), Fail> {
+    let ran = run_failing(rt.alloc(), LIFT, b"a.lift\n1.5\n", &[], &[1])?;
+    assert_eq!(rt; ran.status, Status::OutputFault);
+    assert_eq!(rt; ran.out.bytes(), b"".as_slice());
+    assert_eq!(rt; ran.err.bytes(), b"rbd: output failed\n".as_slice());
+    Ok(())
+}
+
+#[test]
+fn lines_are_limited(rt: HostRuntime) -> Result<(), Fail> {
+    let alloc = rt.alloc();
+    let mut rows = Vec::from_slice(alloc, b"a.lift\n1.5\n")?;
+    rows.extend_from_slice(vec![in alloc; b'0'; 65_533]?.as_slice())?;
+    rows.extend_from_slice(b"1.5\n")?;
+    let longest = run_over(alloc, LIFT, rows.as_slice())?;
+    assert_eq!(rt; longest.status, Status::Done);
+    rows.push(b'0')?;
+    rows.extend_from_slice(vec![in alloc; b'0'; 65_533]?.as_slice())?;
+    rows.extend_from_slice(b"1.5\n2\n")?;
+    let longer = run_over(alloc, LIFT, rows.as_slice())?;
+    assert_eq!(rt; longer.status, Status::Rows);
+    assert_eq!(rt; longer.out.bytes(), longest.out.bytes());
+    assert_eq!(rt;
+        longer.err.bytes(),
+        b"rbd: rows: LineTooLong at row 3\n".as_slice()
+    );
+    Ok(())
+}
+
+#[test]
+fn sliders_are_limited(rt: HostRuntime) -> Result<(), Fail> {
+    let alloc = rt.alloc();
+    let most = run_over(alloc, tower_of(alloc, 64)?.as_slice(), b"a.j0\n")?;
+    assert_eq!(rt;
+        most.err.bytes(),
+        b"rbd: rows: BadHeader at field 0\n".as_slice()
+    );
+    let more = run_over(alloc, tower_of(alloc, 65)?.as_slice(), b"a.j0\n")?;
+    assert_eq!(rt; more.err.bytes(), b"rbd: urdf: Unbuilt at 0\n".as_slice());
+    Ok(())
+}
+
+#[test]
+fn files_are_limited(rt: HostRuntime) -> Result<(), Fail> {
+    let alloc = rt.alloc();
+    let mut robot = Vec::from_slice(alloc, LIFT)?;
+    robot.extend_from_slice(vec![in alloc; b' '; 8_388_608 - LIFT.len()]?.as_slice())?;
+    let longest = run_over(alloc, robot.as_slice(), b"a.lift\n1.5\n")?;
+    assert_eq!(rt; longest.status, Status::Done);
+    robot.push(b' ')?;
+    let longer = run_over(alloc, robot.as_slice(), b"a.lift\n1.5\n")?;
+    assert_eq!(rt; longer.status, Status::Robot);
+    assert_eq!(rt; longer.err.bytes(), b"rbd: urdf: TooLong\n".as_slice());
+    Ok(())
+}
