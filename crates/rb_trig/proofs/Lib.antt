@@ -1,0 +1,10 @@
+pub mod Numbers
+pub mod Steps
+pub mod Series
+pub mod Encloses
+pub mod Sizes
+pub mod Read
+pub mod Nested
+pub mod Results
+pub mod Root
+pub mod Factor

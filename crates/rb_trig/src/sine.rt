@@ -1,0 +1,147 @@
+ghost use Rattle.std.specs.Prelude.{◌≡◌, ℕ, ℤ, pos, ◌-◌, ◌≤◌, ◌^◌, ◌<◌, ◌<ℤ◌, ◌↔◌, IfOk, IsErr};
+ghost use Rattle.rb_num.specs.Dot.{ProductsFit};
+ghost use Rattle.rb_trig.specs.Sine.{divisor as divisor_of, nested as nested_of, step as step_of, square_of, IsSquare, IsAngle, sines, cosines, sin_cos_of, Encloses};
+
+use crate::ends::{clamp, outward, products, squares};
+use rb_num::{Iv, S};
+
+/// The largest size of an angle, in units: eight radians.
+pub const ANGLE_LIMIT: i128 = 8 * S;
+
+// The nested products count parts of one in this number.
+const T: i128 = 10_000_000_000_000_000;
+
+// How many terms the shorter sum has.
+const TERMS: u64 = 24;
+
+/// An end of the angle is larger in size than `ANGLE_LIMIT`.
+#[derive(Clone, Copy, Debug, PartialEq, Eq)]
+pub struct AngleRange;
+
+// The series of the sine and that of the cosine.
+#[derive(Clone, Copy)]
+enum Series {
+    Sine,
+    Cosine,
+}
+
+impl Series {
+    // What the term before the term `k` is divided by, once it is taken times the square of the
+    // angle.
+    fn divisor(self, k: u64) -> i128
+        requires low { 1 ≤ k }
+        requires high { k < 2 ^ 30 }
+        ensures { result ≡ pos (divisor_of self k) }
+    {
+        let twice = 2 * i128::from(k);
+        match self {
+            Series::Sine => twice * (twice + 1),
+            Series::Cosine => (twice - 1) * twice,
+        }
+    }
+
+    // The sum of this many terms, by nested products; the sine's is without its first factor, the
+    // angle. The square of the angle and the result count parts of `T`.
+    fn nested(self, square: Iv, terms: u64) -> Iv
+        requires square { IsSquare square }
+        requires some { 1 ≤ terms }
+        requires few { terms < 2 ^ 30 }
+        ensures { result ≡ nested_of self square 1 (terms - 1) }
+    {
+        let mut sum = Iv::new(T, T);
+        for k in (1..terms).rev() {
+            sum = step(square, sum, self.divisor(k));
+        }
+        sum
+    }
+}
+
+// One less the product of both, divided: a step of the nested products.
+fn step(square: Iv, sum: Iv, divisor: i128) -> Iv
+    requires fit { ProductsFit (square, sum) }
+    requires low { pos 0 <ℤ divisor }
+    requires high { divisor <ℤ pos (2 ^ 62) }
+    ensures { result ≡ step_of square sum divisor }
+{
+    let part = outward(products(square, sum), T * divisor);
+    Iv::new(T - part.hi(), T - part.lo())
+}
+
+// The sine's sum of this many terms.
+fn sine(angle: Iv, square: Iv, terms: u64) -> Iv
+    requires angle { IsAngle angle }
+    requires square { IsSquare square }
+    requires some { 1 ≤ terms }
+    requires few { terms < 2 ^ 30 }
+    ensures { result ≡ sines angle square terms }
+{
+    outward(products(angle, Series::Sine.nested(square, terms)), T)
+}
+
+// The cosine's sum of this many terms.
+fn cosine(square: Iv, terms: u64) -> Iv
+    requires square { IsSquare square }
+    requires some { 1 ≤ terms }
+    requires few { terms < 2 ^ 30 }
+    ensures { result ≡ cosines square terms }
+{
+    outward(Series::Cosine.nested(square, terms), T / S)
+}
+
+// The square of the angle, in parts of `T`.
+fn square(angle: Iv) -> Iv
+    requires { IsAngle angle }
+    ensures value { result ≡ square_of angle }
+    ensures bounds { IsSquare result }
+{
+    outward(squares(angle), S * S / T)
+}
+
+/// The sines and the cosines of the angles, as two intervals from -1 to 1.
+///
+/// Each pair of fractions that goes with an angle in it lies in the two intervals: each of them is
+/// the hull of the sums of two numbers of terms of its series, next to each other. It is refused
+/// exactly where an end of the angle is larger in size than `ANGLE_LIMIT`.
+pub fn sin_cos(angle: Iv) -> Result<(Iv, Iv), AngleRange>
+    ensures exact { result ≡ sin_cos_of angle }
+    ensures range { IsErr result ↔ ¬ IsAngle angle }
+    ensures encloses { IfOk result (Encloses angle) }
+{
+    if angle.lo() < -ANGLE_LIMIT || ANGLE_LIMIT < angle.hi() {
+        return Err(AngleRange);
+    }
+    let square = square(angle);
+    let sines = sine(angle, square, TERMS).hull(sine(angle, square, TERMS + 1));
+    let cosines = cosine(square, TERMS).hull(cosine(square, TERMS + 1));
+    Ok((clamp(sines), clamp(cosines)))
+}
+
+#[cfg(test)]
+mod tests {
+    use super::*;
+
+    // The expected ends are those of the sine and the cosine to twelve places, rounded outwards.
+    #[test]
+    fn known_angles(rt: HostRuntime) {
+        assert_eq!(rt;
+            sin_cos(Iv::new(500_000_000_000, 500_000_000_000)),
+            Ok((
+                Iv::new(479_425_538_604, 479_425_538_605),
+                Iv::new(877_582_561_890, 877_582_561_891)
+            ))
+        );
+        assert_eq!(rt; sin_cos(Iv::ZERO), Ok((Iv::ZERO, Iv::ONE)));
+        let right = sin_cos(Iv::new(1_570_796_326_794, 1_570_796_326_795));
+        assert!(rt; matches!(right, Ok((s, _)) if s == Iv::new(999_999_999_999, S)));
+        let wide = sin_cos(Iv::new(100_000_000_000, 200_000_000_000));
+        assert!(rt; matches!(wide, Ok((s, _)) if s == Iv::new(99_333_666_349, 199_667_333_175)));
+        let far = sin_cos(Iv::new(8_000_000_000_000, 8_000_000_000_000));
+        assert!(rt; matches!(far, Ok((s, _)) if s == Iv::new(989_358_246_623, 989_358_246_624)));
+    }
+
+    #[test]
+    fn angles_out_of_range(rt: HostRuntime) {
+        assert_eq!(rt; sin_cos(Iv::new(0, 8_000_000_000_001)), Err(AngleRange));
+        assert_eq!(rt; sin_cos(Iv::new(-8_000_000_000_001, 0)), Err(AngleRange));
+    }
+}
