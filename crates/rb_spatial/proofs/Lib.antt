@@ -1,0 +1,6 @@
+pub mod Keep
+pub mod Enclosure
+pub mod Vars
+pub mod Identities
+pub mod Entries
+pub mod Outer

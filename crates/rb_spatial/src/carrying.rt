@@ -1,0 +1,189 @@
+ghost use Rattle.std.specs.Prelude.{◌≡◌, IfOk, IfErr};
+ghost use Rattle.rb_num.specs.Arith.{intervals};
+ghost use Rattle.rb_num.specs.Dot.{iv_dot};
+ghost use Rattle.rb_spatial.specs.Encloses.{EnclosesProduct, EnclosesCarry};
+ghost use Rattle.rb_spatial.specs.Rules.{pairs, less_pairs};
+ghost use Rattle.rb_spatial.specs.Rules.{row_mul as row_mul_of, product as product_of, upper_product as upper_product_of};
+ghost use Rattle.rb_spatial.specs.Rules.{less_row as less_row_of, less_product as less_product_of};
+ghost use Rattle.rb_spatial.specs.Rules.{corrected as corrected_of, correct as correct_of};
+ghost use Rattle.rb_spatial.specs.Rules.{turn_symmetric as turn_symmetric_of, turn_table as turn_table_of, carry as carry_of};
+
+use crate::inertias::Inertia6;
+use crate::motions::Place;
+use crate::vectors::{Mat3, Sym3, Vec3};
+use rb_num::{Iv, NumFault, dot};
+
+fn dot_three(u: &Vec3, w: &Vec3) -> Result<Iv, NumFault>
+    ensures exact { result ≡ iv_dot (pairs u.now w.now) }
+    ensures size { IfErr result (λ e. e ≡ NumFault.Size) }
+{
+    dot(&[(u.x(), w.x()), (u.y(), w.y()), (u.z(), w.z())])
+}
+
+// The vector, as a row, times the table.
+#[tactic(auto, unfolding(crate::specs::Rules::row_mul))]
+fn row_mul(v: &Vec3, t: &Mat3) -> Result<Vec3, NumFault>
+    ensures exact { result ≡ row_mul_of intervals v.now t.now }
+    ensures size { IfErr result (λ e. e ≡ NumFault.Size) }
+{
+    let columns = t.transpose();
+    let x = dot_three(v, &columns.x())?;
+    let y = dot_three(v, &columns.y())?;
+    let z = dot_three(v, &columns.z())?;
+    Ok(Vec3::new(x, y, z))
+}
+
+/// The product of two tables, a sum of three products for each entry. It is refused with `Size`
+/// exactly where one of these is.
+#[tactic(auto, unfolding(crate::specs::Rules::product))]
+pub fn product(s: &Mat3, t: &Mat3) -> Result<Mat3, NumFault>
+    ensures exact { result ≡ product_of intervals s.now t.now }
+    ensures encloses { IfOk result (EnclosesProduct s.now t.now) }
+    ensures size { IfErr result (λ e. e ≡ NumFault.Size) }
+{
+    let x = row_mul(&s.x(), t)?;
+    let y = row_mul(&s.y(), t)?;
+    let z = row_mul(&s.z(), t)?;
+    Ok(Mat3::new(x, y, z))
+}
+
+// The entries on and above the diagonal of a symmetric product, from the columns of its second
+// factor.
+#[tactic(auto, unfolding(crate::specs::Rules::upper_product))]
+fn upper_product(s: &Mat3, columns: &Mat3) -> Result<Sym3, NumFault>
+    ensures exact { result ≡ upper_product_of intervals s.now columns.now }
+    ensures size { IfErr result (λ e. e ≡ NumFault.Size) }
+{
+    let xx = dot_three(&s.x(), &columns.x())?;
+    let xy = dot_three(&s.x(), &columns.y())?;
+    let xz = dot_three(&s.x(), &columns.z())?;
+    let yy = dot_three(&s.y(), &columns.y())?;
+    let yz = dot_three(&s.y(), &columns.z())?;
+    let zz = dot_three(&s.z(), &columns.z())?;
+    Ok(Sym3 {
+        xx,
+        xy,
+        xz,
+        yy,
+        yz,
+        zz,
+    })
+}
+
+// b - v w
+fn less_dot(b: Iv, v: &Vec3, w: &Vec3) -> Result<Iv, NumFault>
+    ensures exact { result ≡ iv_dot (less_pairs intervals b v.now w.now) }
+    ensures size { IfErr result (λ e. e ≡ NumFault.Size) }
+{
+    dot(&[
+        (b, Iv::ONE),
+        (v.x().neg(), w.x()),
+        (v.y().neg(), w.y()),
+        (v.z().neg(), w.z()),
+    ])
+}
+
+// b - v t, where v is a row.
+#[tactic(auto, unfolding(crate::specs::Rules::less_row))]
+fn less_row(b: &Vec3, v: &Vec3, t: &Mat3) -> Result<Vec3, NumFault>
+    ensures exact { result ≡ less_row_of intervals b.now v.now t.now }
+    ensures size { IfErr result (λ e. e ≡ NumFault.Size) }
+{
+    let columns = t.transpose();
+    let x = less_dot(b.x(), v, &columns.x())?;
+    let y = less_dot(b.y(), v, &columns.y())?;
+    let z = less_dot(b.z(), v, &columns.z())?;
+    Ok(Vec3::new(x, y, z))
+}
+
+// b - a r
+#[tactic(auto, unfolding(crate::specs::Rules::less_product))]
+fn less_product(b: &Mat3, a: &Mat3, r: &Mat3) -> Result<Mat3, NumFault>
+    ensures exact { result ≡ less_product_of intervals b.now a.now r.now }
+    ensures size { IfErr result (λ e. e ≡ NumFault.Size) }
+{
+    let x = less_row(&b.x(), &a.x(), r)?;
+    let y = less_row(&b.y(), &a.y(), r)?;
+    let z = less_row(&b.z(), &a.z(), r)?;
+    Ok(Mat3::new(x, y, z))
+}
+
+// c + u p - w q
+fn corrected(c: Iv, u: &Vec3, p: &Vec3, w: &Vec3, q: &Vec3) -> Result<Iv, NumFault>
+    ensures exact { result ≡ corrected_of intervals c u.now p.now w.now q.now }
+    ensures size { IfErr result (λ e. e ≡ NumFault.Size) }
+{
+    dot(&[
+        (c, Iv::ONE),
+        (u.x(), p.x()),
+        (u.y(), p.y()),
+        (u.z(), p.z()),
+        (w.x().neg(), q.x()),
+        (w.y().neg(), q.y()),
+        (w.z().neg(), q.z()),
+    ])
+}
+
+// c + r B - B1^T r on and above the diagonal: `b`, `b1` and `columns` have the columns of B, B1
+// and `r`.
+#[tactic(auto, unfolding(crate::specs::Rules::correct))]
+fn correct(c: &Sym3, r: &Mat3, b: &Mat3, b1: &Mat3, columns: &Mat3) -> Result<Sym3, NumFault>
+    ensures exact { result ≡ correct_of intervals c.now r.now b.now b1.now columns.now }
+    ensures size { IfErr result (λ e. e ≡ NumFault.Size) }
+{
+    let xx = corrected(c.xx, &r.x(), &b.x(), &b1.x(), &columns.x())?;
+    let xy = corrected(c.xy, &r.x(), &b.y(), &b1.x(), &columns.y())?;
+    let xz = corrected(c.xz, &r.x(), &b.z(), &b1.x(), &columns.z())?;
+    let yy = corrected(c.yy, &r.y(), &b.y(), &b1.y(), &columns.y())?;
+    let yz = corrected(c.yz, &r.y(), &b.z(), &b1.y(), &columns.z())?;
+    let zz = corrected(c.zz, &r.z(), &b.z(), &b1.z(), &columns.z())?;
+    Ok(Sym3 {
+        xx,
+        xy,
+        xz,
+        yy,
+        yz,
+        zz,
+    })
+}
+
+// e^T (a e) for a symmetric a.
+#[tactic(auto, unfolding(crate::specs::Rules::turn_symmetric))]
+fn turn_symmetric(e: &Mat3, a: &Sym3) -> Result<Sym3, NumFault>
+    ensures exact { result ≡ turn_symmetric_of intervals e.now a.now }
+    ensures size { IfErr result (λ e. e ≡ NumFault.Size) }
+{
+    let p = product(&a.full(), e)?;
+    upper_product(&e.transpose(), &p.transpose())
+}
+
+// e^T (b e)
+#[tactic(auto, unfolding(crate::specs::Rules::turn_table))]
+fn turn_table(e: &Mat3, b: &Mat3) -> Result<Mat3, NumFault>
+    ensures exact { result ≡ turn_table_of intervals e.now b.now }
+    ensures size { IfErr result (λ e. e ≡ NumFault.Size) }
+{
+    let p = product(b, e)?;
+    product(&e.transpose(), &p)
+}
+
+/// The body's inertia in the parent: the table that takes a motion of the parent to the force
+/// that the inertia needs there.
+///
+/// With the blocks turned to `a1 = e^T (a e)`, `b1 = e^T (b e)` and `c1 = e^T (c e)`, it has the
+/// blocks `a1`, `b1 - a1 rx` and `c1 + rx (b1 - a1 rx) - b1^T rx`, where `rx` is the table of the
+/// cross product with `r`. It is refused with `Size` exactly where one of its sums is.
+#[tactic(auto, unfolding(crate::specs::Rules::carry))]
+pub fn carry(x: &Place, i: &Inertia6) -> Result<Inertia6, NumFault>
+    ensures exact { result ≡ carry_of intervals x.now i.now }
+    ensures encloses { IfOk result (EnclosesCarry x.now i.now) }
+    ensures size { IfErr result (λ e. e ≡ NumFault.Size) }
+{
+    let a = turn_symmetric(&x.e, &i.a)?;
+    let b1 = turn_table(&x.e, &i.b)?;
+    let c1 = turn_symmetric(&x.e, &i.c)?;
+    let r = x.r.cross_table();
+    let b = less_product(&b1, &a.full(), &r)?;
+    let c = correct(&c1, &r, &b.transpose(), &b1.transpose(), &r.transpose())?;
+    Ok(Inertia6 { a, b, c })
+}

@@ -1,0 +1,288 @@
+ghost use Rattle.std.specs.Prelude.{◌≡◌, ◌<◌, IfOk, IfErr};
+ghost use Rattle.rb_num.specs.Arith.{intervals};
+ghost use Rattle.rb_num.specs.Dot.{iv_dot};
+ghost use Rattle.rb_spatial.specs.Tables.{entry as entry_of, symmetric_of};
+ghost use Rattle.rb_spatial.specs.Encloses.{EnclosesEntry, EnclosesTable, EnclosesTimes, EnclosesSum, EnclosesLessOuter};
+ghost use Rattle.rb_spatial.specs.Rules.{six_pairs, mul_both as mul_both_of, table as table_of_body, times as times_of};
+ghost use Rattle.rb_spatial.specs.Rules.{sum_vector as sum_vector_of, sum_table as sum_table_of, sum_symmetric as sum_symmetric_of, sum as sum_of};
+ghost use Rattle.rb_spatial.specs.Rules.{less as less_of, less_vector as less_vector_of, less_table as less_table_of, less_symmetric as less_symmetric_of, less_outer as less_outer_of};
+
+use crate::motions::{Force, Motion};
+use crate::vectors::{Mat3, Sym3, Vec3};
+use rb_num::{Iv, NumFault, dot};
+use std::marker::Model;
+
+/// A body: its mass, its first moment (mass times centre), and its rotational inertia about the
+/// origin in the order xx, xy, xz, yy, yz, zz.
+#[derive(Clone, Copy, Debug)]
+pub struct BodyInertia {
+    pub mass: Iv,
+    pub first: Vec3,
+    pub six: [Iv; 6],
+}
+
+impl Model for BodyInertia {
+    ghost use Rattle.std.specs.Prelude.{◌≡◌, List, length};
+    ghost use Rattle.std.proofs.Common.{ap};
+    ghost use Rattle.rb_num.specs.Interval.{Interval};
+    ghost use Rattle.rb_spatial.specs.Tables.{Body, symmetric_of, six_of, six_of-symmetric_of};
+
+    ghost Value = { Body Interval };
+
+    ghost view = { λ a. record { mass = a.mass; first = a.first; six = symmetric_of a.six } };
+
+    ghost invariant = { λ a. length a.six ≡ 6 };
+
+    ghost inverse = { λ v. record { mass = v.mass; first = v.first; six = six_of v.six } };
+
+    ghost inverse_ok = { λ a h. ap (λ (l : List Interval). record { mass = a.mass; first = a.first; six = l }) (six_of-symmetric_of a.six h) };
+}
+
+impl BodyInertia {
+    pub fn new(mass: Iv, first: Vec3, six: [Iv; 6]) -> BodyInertia
+        ensures { result ≡ record { mass = mass; first = first; six = symmetric_of six } }
+    {
+        BodyInertia { mass, first, six }
+    }
+
+    /// The rotational inertia about the origin, as a table.
+    pub fn rotational(&self) -> Sym3
+        ensures { result ≡ self.now.six }
+    {
+        Sym3 {
+            xx: self.six[0],
+            xy: self.six[1],
+            xz: self.six[2],
+            yy: self.six[3],
+            yz: self.six[4],
+            zz: self.six[5],
+        }
+    }
+}
+
+/// A symmetric table of six rows, from motions to forces: `a` beside `b`, and under them the
+/// transpose of `b` beside `c`.
+#[derive(Clone, Copy, Debug)]
+pub struct Inertia6 {
+    pub a: Sym3,
+    pub b: Mat3,
+    pub c: Sym3,
+}
+
+impl Model for Inertia6 {
+    ghost use Rattle.rb_num.specs.Interval.{Interval};
+    ghost use Rattle.rb_spatial.specs.Tables.{Inertia};
+
+    ghost Value = { Inertia Interval };
+
+    ghost view = { λ i. record { a = i.a; b = i.b; c = i.c } };
+
+    ghost inverse = { λ i. record { a = i.a; b = i.b; c = i.c } };
+}
+
+impl Inertia6 {
+    /// The entry in row `r` and column `c`, from 0.
+    #[tactic(auto, unfolding(crate::specs::Tables::entry))]
+    pub fn get(&self, r: usize, c: usize) -> Iv
+        requires row { r < 6 }
+        requires column { c < 6 }
+        ensures exact { result ≡ entry_of self.now r c }
+        ensures encloses { EnclosesEntry r c self.now result }
+    {
+        let row = match (r < 3, c < 3) {
+            (true, true) => self.a.full().row(r),
+            (true, false) => self.b.row(r),
+            (false, true) => self.b.transpose().row(r - 3),
+            (false, false) => self.c.full().row(r - 3),
+        };
+        if c < 3 {
+            row.component(c)
+        } else {
+            row.component(c - 3)
+        }
+    }
+}
+
+/// The table of a body: the mass times the identity, minus the table of the cross product with
+/// the first moment, and the rotational inertia.
+#[tactic(auto, unfolding(crate::specs::Rules::table))]
+pub fn table(i: &BodyInertia) -> Inertia6
+    ensures exact { result ≡ table_of_body intervals i.now }
+    ensures encloses { EnclosesTable i.now result }
+{
+    Inertia6 {
+        a: Sym3 {
+            xx: i.mass,
+            xy: Iv::ZERO,
+            xz: Iv::ZERO,
+            yy: i.mass,
+            yz: Iv::ZERO,
+            zz: i.mass,
+        },
+        b: i.first.cross_table().transpose(),
+        c: i.rotational(),
+    }
+}
+
+fn dot_six(u: &Vec3, p: &Vec3, w: &Vec3, q: &Vec3) -> Result<Iv, NumFault>
+    ensures exact { result ≡ iv_dot (six_pairs u.now p.now w.now q.now) }
+    ensures size { IfErr result (λ e. e ≡ NumFault.Size) }
+{
+    dot(&[
+        (u.x(), p.x()),
+        (u.y(), p.y()),
+        (u.z(), p.z()),
+        (w.x(), q.x()),
+        (w.y(), q.y()),
+        (w.z(), q.z()),
+    ])
+}
+
+#[tactic(auto, unfolding(crate::specs::Rules::mul_both))]
+fn mul_both(s: &Mat3, t: &Mat3, u: &Vec3, w: &Vec3) -> Result<Vec3, NumFault>
+    ensures exact { result ≡ mul_both_of intervals s.now t.now u.now w.now }
+    ensures size { IfErr result (λ e. e ≡ NumFault.Size) }
+{
+    let x = dot_six(&s.x(), u, &t.x(), w)?;
+    let y = dot_six(&s.y(), u, &t.y(), w)?;
+    let z = dot_six(&s.z(), u, &t.z(), w)?;
+    Ok(Vec3::new(x, y, z))
+}
+
+/// The force of the motion: the table times the vector, a sum of six products for each part. It is
+/// refused with `Size` exactly where one of these is.
+#[tactic(auto, unfolding(crate::specs::Rules::times))]
+pub fn times(i: &Inertia6, m: &Motion) -> Result<Force, NumFault>
+    ensures exact { result ≡ times_of intervals i.now m.now }
+    ensures encloses { IfOk result (EnclosesTimes i.now m.now) }
+    ensures size { IfErr result (λ e. e ≡ NumFault.Size) }
+{
+    let lin = mul_both(&i.a.full(), &i.b, &m.lin, &m.ang)?;
+    let ang = mul_both(&i.b.transpose(), &i.c.full(), &m.lin, &m.ang)?;
+    Ok(Force { lin, ang })
+}
+
+#[tactic(auto, unfolding(crate::specs::Rules::sum_vector))]
+fn sum_vector(u: &Vec3, w: &Vec3) -> Result<Vec3, NumFault>
+    ensures exact { result ≡ sum_vector_of intervals u.now w.now }
+    ensures size { IfErr result (λ e. e ≡ NumFault.Size) }
+{
+    let x = u.x().add(w.x())?;
+    let y = u.y().add(w.y())?;
+    let z = u.z().add(w.z())?;
+    Ok(Vec3::new(x, y, z))
+}
+
+#[tactic(auto, unfolding(crate::specs::Rules::sum_table))]
+fn sum_table(s: &Mat3, t: &Mat3) -> Result<Mat3, NumFault>
+    ensures exact { result ≡ sum_table_of intervals s.now t.now }
+    ensures size { IfErr result (λ e. e ≡ NumFault.Size) }
+{
+    let x = sum_vector(&s.x(), &t.x())?;
+    let y = sum_vector(&s.y(), &t.y())?;
+    let z = sum_vector(&s.z(), &t.z())?;
+    Ok(Mat3::new(x, y, z))
+}
+
+#[tactic(auto, unfolding(crate::specs::Rules::sum_symmetric))]
+fn sum_symmetric(s: &Sym3, t: &Sym3) -> Result<Sym3, NumFault>
+    ensures exact { result ≡ sum_symmetric_of intervals s.now t.now }
+    ensures size { IfErr result (λ e. e ≡ NumFault.Size) }
+{
+    let xx = s.xx.add(t.xx)?;
+    let xy = s.xy.add(t.xy)?;
+    let xz = s.xz.add(t.xz)?;
+    let yy = s.yy.add(t.yy)?;
+    let yz = s.yz.add(t.yz)?;
+    let zz = s.zz.add(t.zz)?;
+    Ok(Sym3 {
+        xx,
+        xy,
+        xz,
+        yy,
+        yz,
+        zz,
+    })
+}
+
+/// The sum, entry by entry. It is refused with `Size` exactly where one of the entries is.
+#[tactic(auto, unfolding(crate::specs::Rules::sum))]
+pub fn sum(a: &Inertia6, b: &Inertia6) -> Result<Inertia6, NumFault>
+    ensures exact { result ≡ sum_of intervals a.now b.now }
+    ensures encloses { IfOk result (EnclosesSum a.now b.now) }
+    ensures size { IfErr result (λ e. e ≡ NumFault.Size) }
+{
+    let top = sum_symmetric(&a.a, &b.a)?;
+    let side = sum_table(&a.b, &b.b)?;
+    let end = sum_symmetric(&a.c, &b.c)?;
+    Ok(Inertia6 {
+        a: top,
+        b: side,
+        c: end,
+    })
+}
+
+// i - u w
+fn less(i: Iv, u: Iv, w: Iv) -> Result<Iv, NumFault>
+    ensures exact { result ≡ less_of intervals i u w }
+    ensures size { IfErr result (λ e. e ≡ NumFault.Size) }
+{
+    dot(&[(i, Iv::ONE), (u.neg(), w)])
+}
+
+#[tactic(auto, unfolding(crate::specs::Rules::less_vector))]
+fn less_vector(i: &Vec3, u: Iv, w: &Vec3) -> Result<Vec3, NumFault>
+    ensures exact { result ≡ less_vector_of intervals i.now u w.now }
+    ensures size { IfErr result (λ e. e ≡ NumFault.Size) }
+{
+    let x = less(i.x(), u, w.x())?;
+    let y = less(i.y(), u, w.y())?;
+    let z = less(i.z(), u, w.z())?;
+    Ok(Vec3::new(x, y, z))
+}
+
+#[tactic(auto, unfolding(crate::specs::Rules::less_table))]
+fn less_table(i: &Mat3, u: &Vec3, w: &Vec3) -> Result<Mat3, NumFault>
+    ensures exact { result ≡ less_table_of intervals i.now u.now w.now }
+    ensures size { IfErr result (λ e. e ≡ NumFault.Size) }
+{
+    let x = less_vector(&i.x(), u.x(), w)?;
+    let y = less_vector(&i.y(), u.y(), w)?;
+    let z = less_vector(&i.z(), u.z(), w)?;
+    Ok(Mat3::new(x, y, z))
+}
+
+#[tactic(auto, unfolding(crate::specs::Rules::less_symmetric))]
+fn less_symmetric(i: &Sym3, u: &Vec3, w: &Vec3) -> Result<Sym3, NumFault>
+    ensures exact { result ≡ less_symmetric_of intervals i.now u.now w.now }
+    ensures size { IfErr result (λ e. e ≡ NumFault.Size) }
+{
+    let xx = less(i.xx, u.x(), w.x())?;
+    let xy = less(i.xy, u.x(), w.y())?;
+    let xz = less(i.xz, u.x(), w.z())?;
+    let yy = less(i.yy, u.y(), w.y())?;
+    let yz = less(i.yz, u.y(), w.z())?;
+    let zz = less(i.zz, u.z(), w.z())?;
+    Ok(Sym3 {
+        xx,
+        xy,
+        xz,
+        yy,
+        yz,
+        zz,
+    })
+}
+
+/// The table less the outer product of `u` and `w`, of which the entries on and above the
+/// diagonal are taken. It is refused with `Size` exactly where one of these is.
+#[tactic(auto, unfolding(crate::specs::Rules::less_outer))]
+pub fn less_outer(i: &Inertia6, u: &Force, w: &Force) -> Result<Inertia6, NumFault>
+    ensures exact { result ≡ less_outer_of intervals i.now u.now w.now }
+    ensures encloses { IfOk result (EnclosesLessOuter i.now u.now w.now) }
+    ensures size { IfErr result (λ e. e ≡ NumFault.Size) }
+{
+    let a = less_symmetric(&i.a, &u.lin, &w.lin)?;
+    let b = less_table(&i.b, &u.lin, &w.ang)?;
+    let c = less_symmetric(&i.c, &u.ang, &w.ang)?;
+    Ok(Inertia6 { a, b, c })
+}

@@ -1,0 +1,16 @@
+//! Spatial algebra: motions, forces and inertias of six dimensions, linear part first, as intervals.
+#![tactic(auto)]
+
+mod carrying;
+mod inertias;
+pub mod laws;
+mod motions;
+mod vectors;
+
+pub use carrying::{carry, product};
+pub use inertias::{BodyInertia, Inertia6, less_outer, sum, table, times};
+pub use motions::{Force, Frame, Motion, Place, apply, apply_dual, cross, cross_dual, power};
+pub use vectors::{Mat3, Sym3, Vec3};
+
+#[cfg(test)]
+mod tests;

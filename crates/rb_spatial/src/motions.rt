@@ -1,0 +1,219 @@
+ghost use Rattle.std.specs.Prelude.{◌≡◌, IfOk, IfErr};
+ghost use Rattle.rb_num.specs.Arith.{intervals};
+ghost use Rattle.rb_spatial.specs.Encloses.{EnclosesApply, EnclosesApplyDual, EnclosesCross, EnclosesCrossDual, EnclosesPower};
+ghost use Rattle.rb_spatial.specs.Rules.{cross3 as cross3_of, cross_twice as cross_twice_of, plus_cross as plus_cross_of, mul as mul_of};
+ghost use Rattle.rb_spatial.specs.Rules.{apply as apply_of, apply_dual as apply_dual_of, cross as cross_of, cross_dual as cross_dual_of, power as power_of};
+
+use crate::vectors::{Mat3, Vec3};
+use rb_num::{Iv, NumFault, dot};
+use std::marker::Model;
+
+/// A speed or an acceleration: linear part first.
+#[derive(Clone, Copy, Debug, PartialEq, Eq)]
+pub struct Motion {
+    pub lin: Vec3,
+    pub ang: Vec3,
+}
+
+impl Model for Motion {
+    ghost use Rattle.rb_num.specs.Interval.{Interval};
+    ghost use Rattle.rb_spatial.specs.Tables.{Spatial};
+
+    ghost Value = { Spatial Interval };
+
+    ghost view = { λ a. record { lin = a.lin; ang = a.ang } };
+
+    ghost inverse = { λ v. record { lin = v.lin; ang = v.ang } };
+}
+
+/// A force and a moment.
+#[derive(Clone, Copy, Debug, PartialEq, Eq)]
+pub struct Force {
+    pub lin: Vec3,
+    pub ang: Vec3,
+}
+
+impl Model for Force {
+    ghost use Rattle.rb_num.specs.Interval.{Interval};
+    ghost use Rattle.rb_spatial.specs.Tables.{Spatial};
+
+    ghost Value = { Spatial Interval };
+
+    ghost view = { λ a. record { lin = a.lin; ang = a.ang } };
+
+    ghost inverse = { λ v. record { lin = v.lin; ang = v.ang } };
+}
+
+/// A frame: its rotation and its origin, in the frame that it stands in.
+#[derive(Clone, Copy, Debug)]
+pub struct Frame {
+    pub rot: Mat3,
+    pub at: Vec3,
+}
+
+impl Model for Frame {
+    ghost use Rattle.rb_num.specs.Interval.{Interval};
+    ghost use Rattle.rb_spatial.specs.Tables.{Pose};
+
+    ghost Value = { Pose Interval };
+
+    ghost view = { λ a. record { rot = a.rot; at = a.at } };
+
+    ghost inverse = { λ v. record { rot = v.rot; at = v.at } };
+}
+
+/// Where a body stands to its parent: `e` turns the parent's vectors into the body's, and `r` is
+/// the body's origin in the parent.
+#[derive(Clone, Copy, Debug)]
+pub struct Place {
+    pub e: Mat3,
+    pub r: Vec3,
+}
+
+impl Model for Place {
+    ghost use Rattle.rb_num.specs.Interval.{Interval};
+    ghost use Rattle.rb_spatial.specs.Tables.{Placing};
+
+    ghost Value = { Placing Interval };
+
+    ghost view = { λ a. record { e = a.e; r = a.r } };
+
+    ghost inverse = { λ v. record { e = v.e; r = v.r } };
+}
+
+#[tactic(auto, unfolding(crate::specs::Rules::cross3))]
+fn cross3(u: &Vec3, w: &Vec3) -> Result<Vec3, NumFault>
+    ensures exact { result ≡ cross3_of intervals u.now w.now }
+    ensures size { IfErr result (λ e. e ≡ NumFault.Size) }
+{
+    let x = dot(&[(u.y(), w.z()), (u.z().neg(), w.y())])?;
+    let y = dot(&[(u.z(), w.x()), (u.x().neg(), w.z())])?;
+    let z = dot(&[(u.x(), w.y()), (u.y().neg(), w.x())])?;
+    Ok(Vec3::new(x, y, z))
+}
+
+// u x w + s x t
+#[tactic(auto, unfolding(crate::specs::Rules::cross_twice))]
+fn cross_twice(u: &Vec3, w: &Vec3, s: &Vec3, t: &Vec3) -> Result<Vec3, NumFault>
+    ensures exact { result ≡ cross_twice_of intervals u.now w.now s.now t.now }
+    ensures size { IfErr result (λ e. e ≡ NumFault.Size) }
+{
+    let x = dot(&[
+        (u.y(), w.z()),
+        (u.z().neg(), w.y()),
+        (s.y(), t.z()),
+        (s.z().neg(), t.y()),
+    ])?;
+    let y = dot(&[
+        (u.z(), w.x()),
+        (u.x().neg(), w.z()),
+        (s.z(), t.x()),
+        (s.x().neg(), t.z()),
+    ])?;
+    let z = dot(&[
+        (u.x(), w.y()),
+        (u.y().neg(), w.x()),
+        (s.x(), t.y()),
+        (s.y().neg(), t.x()),
+    ])?;
+    Ok(Vec3::new(x, y, z))
+}
+
+// n + u x w
+#[tactic(auto, unfolding(crate::specs::Rules::plus_cross))]
+fn plus_cross(n: &Vec3, u: &Vec3, w: &Vec3) -> Result<Vec3, NumFault>
+    ensures exact { result ≡ plus_cross_of intervals n.now u.now w.now }
+    ensures size { IfErr result (λ e. e ≡ NumFault.Size) }
+{
+    let x = dot(&[(n.x(), Iv::ONE), (u.y(), w.z()), (u.z().neg(), w.y())])?;
+    let y = dot(&[(n.y(), Iv::ONE), (u.z(), w.x()), (u.x().neg(), w.z())])?;
+    let z = dot(&[(n.z(), Iv::ONE), (u.x(), w.y()), (u.y().neg(), w.x())])?;
+    Ok(Vec3::new(x, y, z))
+}
+
+#[tactic(auto, unfolding(crate::specs::Rules::mul))]
+fn mul(t: &Mat3, v: &Vec3) -> Result<Vec3, NumFault>
+    ensures exact { result ≡ mul_of intervals t.now v.now }
+    ensures size { IfErr result (λ e. e ≡ NumFault.Size) }
+{
+    let (r, s, t) = (t.x(), t.y(), t.z());
+    let x = dot(&[(r.x(), v.x()), (r.y(), v.y()), (r.z(), v.z())])?;
+    let y = dot(&[(s.x(), v.x()), (s.y(), v.y()), (s.z(), v.z())])?;
+    let z = dot(&[(t.x(), v.x()), (t.y(), v.y()), (t.z(), v.z())])?;
+    Ok(Vec3::new(x, y, z))
+}
+
+/// The parent's motion as the body's: `(e (lin + ang x r), e ang)`. It is refused with `Size`
+/// exactly where one of its sums of products is.
+#[tactic(auto, unfolding(crate::specs::Rules::apply))]
+pub fn apply(x: &Place, m: &Motion) -> Result<Motion, NumFault>
+    ensures exact { result ≡ apply_of intervals x.now m.now }
+    ensures encloses { IfOk result (EnclosesApply x.now m.now) }
+    ensures size { IfErr result (λ e. e ≡ NumFault.Size) }
+{
+    let t = plus_cross(&m.lin, &m.ang, &x.r)?;
+    let lin = mul(&x.e, &t)?;
+    let ang = mul(&x.e, &m.ang)?;
+    Ok(Motion { lin, ang })
+}
+
+/// The body's force as the parent's: `(e^T lin, e^T ang + r x e^T lin)`. It is refused with `Size`
+/// exactly where one of its sums of products is.
+#[tactic(auto, unfolding(crate::specs::Rules::apply_dual))]
+pub fn apply_dual(x: &Place, f: &Force) -> Result<Force, NumFault>
+    ensures exact { result ≡ apply_dual_of intervals x.now f.now }
+    ensures encloses { IfOk result (EnclosesApplyDual x.now f.now) }
+    ensures size { IfErr result (λ e. e ≡ NumFault.Size) }
+{
+    let turn = x.e.transpose();
+    let lin = mul(&turn, &f.lin)?;
+    let n = mul(&turn, &f.ang)?;
+    let ang = plus_cross(&n, &x.r, &lin)?;
+    Ok(Force { lin, ang })
+}
+
+/// The product of two motions, which is how `b` changes as it moves along with `a`:
+/// `(a.ang x b.lin + a.lin x b.ang, a.ang x b.ang)`. It is refused with `Size` exactly where one of
+/// its sums of products is.
+#[tactic(auto, unfolding(crate::specs::Rules::cross))]
+pub fn cross(a: &Motion, b: &Motion) -> Result<Motion, NumFault>
+    ensures exact { result ≡ cross_of intervals a.now b.now }
+    ensures encloses { IfOk result (EnclosesCross a.now b.now) }
+    ensures size { IfErr result (λ e. e ≡ NumFault.Size) }
+{
+    let lin = cross_twice(&a.ang, &b.lin, &a.lin, &b.ang)?;
+    let ang = cross3(&a.ang, &b.ang)?;
+    Ok(Motion { lin, ang })
+}
+
+/// The product of a motion and a force, which is how `f` changes as it moves along with `a`:
+/// `(a.ang x f.lin, a.ang x f.ang + a.lin x f.lin)`. It is refused with `Size` exactly where one of
+/// its sums of products is.
+#[tactic(auto, unfolding(crate::specs::Rules::cross_dual))]
+pub fn cross_dual(a: &Motion, f: &Force) -> Result<Force, NumFault>
+    ensures exact { result ≡ cross_dual_of intervals a.now f.now }
+    ensures encloses { IfOk result (EnclosesCrossDual a.now f.now) }
+    ensures size { IfErr result (λ e. e ≡ NumFault.Size) }
+{
+    let lin = cross3(&a.ang, &f.lin)?;
+    let ang = cross_twice(&a.ang, &f.ang, &a.lin, &f.lin)?;
+    Ok(Force { lin, ang })
+}
+
+/// The power of the force at the motion, one sum of six products. It is refused with `Size` exactly
+/// where that is.
+#[tactic(auto, unfolding(crate::specs::Rules::power))]
+pub fn power(m: &Motion, f: &Force) -> Result<Iv, NumFault>
+    ensures exact { result ≡ power_of intervals m.now f.now }
+    ensures encloses { IfOk result (EnclosesPower m.now f.now) }
+    ensures size { IfErr result (λ e. e ≡ NumFault.Size) }
+{
+    dot(&[
+        (m.lin.x(), f.lin.x()),
+        (m.lin.y(), f.lin.y()),
+        (m.lin.z(), f.lin.z()),
+        (m.ang.x(), f.ang.x()),
+        (m.ang.y(), f.ang.y()),
+        (m.ang.z(), f.ang.z()),
+    ])
+}

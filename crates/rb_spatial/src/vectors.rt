@@ -1,0 +1,191 @@
+ghost use Rattle.std.specs.Prelude.{◌≡◌, ◌<◌};
+ghost use Rattle.rb_num.specs.Arith.{intervals};
+ghost use Rattle.rb_spatial.specs.Tables.{transpose as transpose_of, full as full_of, component as component_of, row as row_of};
+ghost use Rattle.rb_spatial.specs.Rules.{cross_table as cross_table_of};
+
+use rb_num::Iv;
+use std::marker::Model;
+
+/// A vector of three intervals.
+#[derive(Clone, Copy, Debug, PartialEq, Eq)]
+pub struct Vec3([Iv; 3]);
+
+impl Model for Vec3 {
+    ghost use Rattle.std.specs.Prelude.{◌≡◌, List, length};
+    ghost use Rattle.std.proofs.Common.{ap};
+    ghost use Rattle.rb_frac.specs.Ops.{V3};
+    ghost use Rattle.rb_num.specs.Interval.{Interval};
+    ghost use Rattle.rb_spatial.specs.Tables.{vector_of, list_of, list_of-vector_of};
+
+    ghost Value = { V3 Interval };
+
+    ghost view = { λ a. vector_of a.0 };
+
+    ghost invariant = { λ a. length a.0 ≡ 3 };
+
+    ghost inverse = { λ v. record { 0 = list_of v } };
+
+    ghost inverse_ok = { λ a h. ap (λ (l : List Interval). record { 0 = l }) (list_of-vector_of a.0 h) };
+}
+
+impl Vec3 {
+    pub fn new(x: Iv, y: Iv, z: Iv) -> Vec3
+        ensures { result ≡ record { x = x; y = y; z = z } }
+    {
+        Vec3([x, y, z])
+    }
+
+    pub fn x(&self) -> Iv
+        ensures { result ≡ self.now.x }
+    {
+        self.0[0]
+    }
+
+    pub fn y(&self) -> Iv
+        ensures { result ≡ self.now.y }
+    {
+        self.0[1]
+    }
+
+    pub fn z(&self) -> Iv
+        ensures { result ≡ self.now.z }
+    {
+        self.0[2]
+    }
+
+    /// Component `k`, from 0.
+    pub fn component(&self, k: usize) -> Iv
+        requires { k < 3 }
+        ensures { result ≡ component_of self.now k }
+    {
+        match k {
+            0 => self.x(),
+            1 => self.y(),
+            _ => self.z(),
+        }
+    }
+
+    /// The table of the cross product with this vector.
+    pub fn cross_table(&self) -> Mat3
+        ensures { result ≡ cross_table_of intervals self.now }
+    {
+        Mat3::new(
+            Vec3::new(Iv::ZERO, self.z().neg(), self.y()),
+            Vec3::new(self.z(), Iv::ZERO, self.x().neg()),
+            Vec3::new(self.y().neg(), self.x(), Iv::ZERO),
+        )
+    }
+}
+
+/// A table of three rows of three intervals.
+#[derive(Clone, Copy, Debug)]
+pub struct Mat3([[Iv; 3]; 3]);
+
+impl Model for Mat3 {
+    ghost use Rattle.std.specs.Prelude.{◌≡◌, List};
+    ghost use Rattle.std.proofs.Common.{ap};
+    ghost use Rattle.rb_num.specs.Interval.{Interval};
+    ghost use Rattle.rb_spatial.specs.Tables.{Table, IsSquare, table_of, lists_of, lists_of-table_of};
+
+    ghost Value = { Table Interval };
+
+    ghost view = { λ a. table_of a.0 };
+
+    ghost invariant = { λ a. IsSquare a.0 };
+
+    ghost inverse = { λ v. record { 0 = lists_of v } };
+
+    ghost inverse_ok = { λ a h. ap (λ (l : List (List Interval)). record { 0 = l }) (lists_of-table_of a.0 h) };
+}
+
+impl Mat3 {
+    /// The table of these rows.
+    pub fn new(x: Vec3, y: Vec3, z: Vec3) -> Mat3
+        ensures { result ≡ record { x = x; y = y; z = z } }
+    {
+        Mat3([
+            [x.x(), x.y(), x.z()],
+            [y.x(), y.y(), y.z()],
+            [z.x(), z.y(), z.z()],
+        ])
+    }
+
+    /// The first row.
+    pub fn x(&self) -> Vec3
+        ensures { result ≡ self.now.x }
+    {
+        Vec3(self.0[0])
+    }
+
+    /// The second row.
+    pub fn y(&self) -> Vec3
+        ensures { result ≡ self.now.y }
+    {
+        Vec3(self.0[1])
+    }
+
+    /// The third row.
+    pub fn z(&self) -> Vec3
+        ensures { result ≡ self.now.z }
+    {
+        Vec3(self.0[2])
+    }
+
+    /// Row `k`, from 0.
+    pub fn row(&self, k: usize) -> Vec3
+        requires { k < 3 }
+        ensures { result ≡ row_of self.now k }
+    {
+        match k {
+            0 => self.x(),
+            1 => self.y(),
+            _ => self.z(),
+        }
+    }
+
+    pub fn transpose(&self) -> Mat3
+        ensures { result ≡ transpose_of self.now }
+    {
+        let (x, y, z) = (self.x(), self.y(), self.z());
+        Mat3::new(
+            Vec3::new(x.x(), y.x(), z.x()),
+            Vec3::new(x.y(), y.y(), z.y()),
+            Vec3::new(x.z(), y.z(), z.z()),
+        )
+    }
+}
+
+/// A symmetric table of three rows: its entries on and above the diagonal.
+#[derive(Clone, Copy, Debug)]
+pub struct Sym3 {
+    pub xx: Iv,
+    pub xy: Iv,
+    pub xz: Iv,
+    pub yy: Iv,
+    pub yz: Iv,
+    pub zz: Iv,
+}
+
+impl Model for Sym3 {
+    ghost use Rattle.rb_num.specs.Interval.{Interval};
+    ghost use Rattle.rb_spatial.specs.Tables.{Symmetric};
+
+    ghost Value = { Symmetric Interval };
+
+    ghost view = { λ s. record { xx = s.xx; xy = s.xy; xz = s.xz; yy = s.yy; yz = s.yz; zz = s.zz } };
+
+    ghost inverse = { λ s. record { xx = s.xx; xy = s.xy; xz = s.xz; yy = s.yy; yz = s.yz; zz = s.zz } };
+}
+
+impl Sym3 {
+    /// All nine entries.
+    pub fn full(&self) -> Mat3
+        ensures { result ≡ full_of self.now }
+    {
+        Mat3::new(
+            Vec3::new(self.xx, self.xy, self.xz),
+            Vec3::new(self.xy, self.yy, self.yz),
+            Vec3::new(self.xz, self.yz, self.zz),
+        )
+    }
+}
