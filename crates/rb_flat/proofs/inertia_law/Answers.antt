@@ -1,0 +1,8 @@
+use Rattle.rb_flat.proofs.Identities.{congruent_is_symmetric, parallel_axes_is_square}
+use Rattle.rb_flat.proofs.inertia_law.Goals as goal
+
+pub returns-clause-symmetric : goal.returns-clause-symmetric
+returns-clause-symmetric c = congruent_is_symmetric
+
+pub returns-clause-parallel : goal.returns-clause-parallel
+returns-clause-parallel c = parallel_axes_is_square

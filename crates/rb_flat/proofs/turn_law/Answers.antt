@@ -1,0 +1,11 @@
+use Rattle.rb_flat.proofs.Identities.{turn_keeps_axis, quaternion_keeps_vector, turns_about_coordinates}
+use Rattle.rb_flat.proofs.turn_law.Goals as goal
+
+pub returns-clause-axis : goal.returns-clause-axis
+returns-clause-axis c = turn_keeps_axis
+
+pub returns-clause-quaternion : goal.returns-clause-quaternion
+returns-clause-quaternion c = quaternion_keeps_vector
+
+pub returns-clause-coordinates : goal.returns-clause-coordinates
+returns-clause-coordinates c = turns_about_coordinates

@@ -1,0 +1,5 @@
+pub mod Tables
+pub mod Turns
+pub mod Joint
+pub mod Body
+pub mod Laws
