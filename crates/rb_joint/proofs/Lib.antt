@@ -1,0 +1,5 @@
+pub mod Keep
+pub mod Enclosure
+pub mod Identities
+pub mod Choices
+pub mod Ranges

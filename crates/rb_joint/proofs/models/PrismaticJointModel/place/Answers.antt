@@ -1,0 +1,9 @@
+use Rattle.std.proofs.Common.{rules}
+use Rattle.rb_joint.specs.Rules.{place_along}
+use Rattle.rb_joint.specs.Models.{prismatic_place}
+use Rattle.rb_joint.proofs.Choices.{prismatic_answer}
+use Rattle.rb_joint.proofs.models.PrismaticJointModel.place.Goals as goal
+
+pub returns-clause-encloses : goal.returns-clause-encloses
+unfolding prismatic_place place_along
+returns-clause-encloses c = prismatic_answer _ _ _ _ c.requires (search rules)

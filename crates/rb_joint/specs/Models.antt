@@ -1,0 +1,63 @@
+-- What frames and the joint models answer.
+use Rattle.std.specs.Prelude.{Result, Ok, Err, List, [], ◌∷◌}
+use Rattle.rb_frac.specs.Ops.{V3}
+use Rattle.rb_num.specs.declared.interval.NumFault.{NumFault}
+use Rattle.rb_num.specs.Interval.{Interval}
+use Rattle.rb_num.specs.Arith.{intervals}
+use Rattle.rb_spatial.specs.Tables.{Symmetric, Placing, Pose, none}
+use Rattle.rb_trig.specs.declared.sine.AngleRange.{AngleRange}
+use Rattle.rb_trig.specs.Sine.{sin_cos_of}
+use Rattle.rb_flat.specs.Tables.{Turn}
+use Rattle.rb_joint.specs.declared.faults.JointFault.{JointFault}
+use Rattle.rb_joint.specs.declared.faults.JointFault.TheVariants.{Range, Size}
+use Rattle.rb_joint.specs.Rules.{rotation, place_fixed, place_turned, place_along}
+
+-- the first refusal, or the answer of the second step
+abbrev pub next : {A B : Type 0} → Result A JointFault → (A → Result B JointFault) → Result B JointFault
+next (Ok x) f = f x
+next (Err e) f = Err e
+
+-- a refusal of intervals is one of size
+abbrev pub sized : {A : Type 0} → Result A NumFault → Result A JointFault
+sized (Ok x) = Ok x
+sized (Err e) = Err Size
+
+abbrev pub as_turn : Result (Interval × Interval) AngleRange → Result (Turn Interval) JointFault
+as_turn (Ok p) = Ok (record { sin = p.0; cos = p.1 })
+as_turn (Err e) = Err Range
+
+-- the turn by an angle
+unfoldable pub turn_by : Interval → Result (Turn Interval) JointFault
+turn_by x = as_turn (sin_cos_of x)
+
+-- the frame with this origin, turned by roll, pitch and yaw
+unfoldable pub frame_by : V3 Interval → V3 Interval → Result (Pose Interval) JointFault
+frame_by xyz rpy =
+    next (turn_by rpy.x) (λ roll.
+    next (turn_by rpy.y) (λ pitch.
+    next (turn_by rpy.z) (λ yaw.
+    next (sized (rotation intervals roll pitch yaw)) (λ r. Ok (record { rot = r; at = xyz })))))
+
+-- ---- the places of the joint models, of an entry where they have one
+abbrev pub first : List Interval → Interval
+first [] = none
+first (x ∷ xs) = x
+
+unfoldable pub fixed_place : Pose Interval → Result (Placing Interval) JointFault
+fixed_place f = sized (place_fixed intervals f)
+
+unfoldable pub revolute_place : Pose Interval → V3 Interval → Interval → Result (Placing Interval) JointFault
+revolute_place f a x = next (turn_by x) (λ t. sized (place_turned intervals f a t))
+
+unfoldable pub prismatic_place : Pose Interval → V3 Interval → Interval → Result (Placing Interval) JointFault
+prismatic_place f a d = sized (place_along intervals f a d)
+
+-- a frame and an axis in it
+pub record Axial : Type 0 where
+  pub frame : Pose Interval
+  pub axis : V3 Interval
+
+-- the products of an axis, where they are within the limit
+abbrev pub kept : Result (Symmetric Interval) NumFault → Symmetric Interval
+kept (Ok p) = p
+kept (Err e) = record { xx = none; xy = none; xz = none; yy = none; yz = none; zz = none }

@@ -1,0 +1,23 @@
+//! Joints: the turns of angles, axes and quaternions, the places that they give, and the models of
+//! joints with their places and columns.
+#![tactic(auto)]
+
+mod any;
+mod faults;
+mod frames;
+pub mod laws;
+mod model;
+mod models;
+mod places;
+mod turns;
+
+pub use any::AnyJoint;
+pub use faults::JointFault;
+pub use frames::frame_of;
+pub use model::JointModel;
+pub use models::{Fixed, Prismatic, Revolute};
+pub use places::{place_of, place_shifted};
+pub use turns::{Quaternion, Turn, axis_products, rotation, turn_about, turn_level, turn_of};
+
+#[cfg(test)]
+mod tests;
