@@ -3,3 +3,4 @@ pub mod Turns
 pub mod Joint
 pub mod Body
 pub mod Laws
+pub mod Choice

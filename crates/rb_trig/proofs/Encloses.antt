@@ -1,8 +1,7 @@
 -- What the sine and the cosine of an interval enclose: each pair that goes with an angle in it.
 use Rattle.std.proofs.Common.{◌≡◌, ℕ, zero, suc, ◌+◌, ◌-◌, ◌*◌, ◌<◌, ◌≤◌, pos, neg_ℤ, true, false, cond, [], ◌∷◌, refl, sym, ◌∙◌, ap, subst, arith}
 use mathlib.Core.Logic.{◌⊎◌, inl, inr}
-use Rattle.rb_frac.specs.Frac as F
-use Rattle.rb_frac.specs.Frac.{Frac, Same, Le}
+use Rattle.rb_frac.specs.Frac.{Frac, Le}
 use Rattle.rb_frac.specs.Laws.{one}
 use Rattle.rb_frac.proofs.Ring.{var, eone, plus, times, minus, ring}
 use Rattle.rb_frac.proofs.Vec.{nth}
@@ -25,7 +24,7 @@ use Rattle.rb_trig.specs.Sine.{scale, square_of, divisor, step, nested, sines, c
 use Rattle.rb_trig.proofs.Numbers.{whole, whole-mul, whole-neg, whole_pos, nonneg_whole, Holds, from_lies, to_lies}
 use Rattle.rb_trig.proofs.Steps.{products_hold, outward_holds, squares_hold, difference_holds, clamped_holds, clamped_top, clamped_bottom}
 use Rattle.rb_trig.proofs.Sizes.{some_divisor}
-use Rattle.rb_trig.proofs.Series.{nest, over, cosine_sum_is, sine_sum_is}
+use Rattle.rb_trig.proofs.Series.{nest, over, cls-minus, cosine_sum_is, sine_sum_is}
 
 -- ---- nested products
 -- one step, where e is one by the divisor
@@ -122,10 +121,6 @@ to_one g q h k = subst (λ (r : ℚ). (q *ℚ g) ≤ℚ r) (ring rats (nth 0ℚ 
 
 minus_times : (g : ℚ) → g *ℚ neg_ℚ 1ℚ ≡ neg_ℚ g
 minus_times g = ring rats (nth 0ℚ (g ∷ [])) (times (var 0) (minus eone)) (minus (var 0)) refl
-
-cls-minus : cls minus_one ≡ neg_ℚ 1ℚ
-unfolding F.whole whole
-cls-minus = whole-neg (pos 1) ∙ ap neg_ℚ cls-one
 
 to_minus : (g q : ℚ) → 0ℚ ≤ℚ g → q ≤ℚ neg_ℚ 1ℚ → (q *ℚ g) ≤ℚ neg_ℚ g
 to_minus g q h k = subst (λ (r : ℚ). (q *ℚ g) ≤ℚ r) (minus_times g)

@@ -197,8 +197,8 @@ length_holds x y z a b c h i j =
     (sum_equal (cls a) (cls b) (cls c) (whole (pos grid)) ∙ ap₂ ◌*ℚ◌ (sym (cls-square_sum a b c)) (sym (whole-mul (pos grid) (pos grid))))
     (sum_holds (squares x) (squares y) (squares z) _ _ _ (squares_hold x _ (from_lies a x h)) (squares_hold y _ (from_lies b y i)) (squares_hold z _ (from_lies c z j)))
 
-abbrev N2 : ℕ
-N2 = grid * grid
+abbrev grid_square : ℕ
+grid_square = grid * grid
 
 nonneg_product : (w : ℤ) (c : ℕ) → pos 0 ≤ℤ w → 0ℚ ≤ℚ (whole w *ℚ whole (pos c))
 nonneg_product (pos w) c h = subst (λ (t : ℚ). 0ℚ ≤ℚ t) (whole-mul (pos w) (pos c)) (nonneg_whole (w * c))
@@ -208,31 +208,31 @@ scaled : (w : ℤ) (s : Frac) → cls (F.mul (F.whole (w *ℤ w)) s) ≡ (whole 
 unfolding whole
 scaled w s = cls_of_mul (F.whole (w *ℤ w)) s ∙ ap (λ (t : ℚ). t *ℚ cls s) (whole-mul w w)
 
-low_factor : (q : Interval) (s : Frac) → IsLength q → Holds q (cls s *ℚ whole (pos N2)) → Le (F.mul (F.whole ((factor q).lo *ℤ (factor q).lo)) s) (F.whole (pos N2))
+low_factor : (q : Interval) (s : Frac) → IsLength q → Holds q (cls s *ℚ whole (pos grid_square)) → Le (F.mul (F.whole ((factor q).lo *ℤ (factor q).lo)) s) (F.whole (pos grid_square))
 unfolding factor whole
 low_factor q s l h =
     let c = ceil_root q.hi in
-    let w = floor_of (pos N2) c in
-    let k = quotients N2 c (floor_root q.lo) (floor_some q.lo l.some) (roots_ordered q l) in
+    let w = floor_of (pos grid_square) c in
+    let k = quotients grid_square c (floor_root q.lo) (floor_some q.lo l.some) (roots_ordered q l) in
     let p : 0 < c = omega (arith, floor_some q.lo l.some, roots_ordered q l) in
     let root : whole q.hi ≤ℚ (whole (pos c) *ℚ whole (pos c)) = subst (λ (t : ℚ). whole q.hi ≤ℚ t) (whole-mul (pos c) (pos c)) (whole-le q.hi (pos (c * c)) (ceil_high q.hi (omega (arith, ints, l.some, l.ordered)))) in
-    let quotient : (whole w *ℚ whole (pos c)) ≤ℚ whole (pos N2) = subst (λ (t : ℚ). t ≤ℚ whole (pos N2)) (whole-mul w (pos c)) (whole-le (w *ℤ pos c) (pos N2) (floor-low (pos N2) c p)) in
-    (cls-le (F.mul (F.whole (w *ℤ w)) s) (F.whole (pos N2))).1
-    (subst (λ (t : ℚ). t ≤ℚ whole (pos N2)) (sym (scaled w s))
-    (cancel_ℚ ((whole w *ℚ whole w) *ℚ cls s) (whole (pos N2)) (whole (pos N2)) (whole_pos N2 (omega arith))
-    (short (whole w) (whole (pos c)) (whole q.hi) (cls s) (whole (pos N2)) (nonneg_whole N2) (nonneg_product w c k.low) quotient root h.high)))
+    let quotient : (whole w *ℚ whole (pos c)) ≤ℚ whole (pos grid_square) = subst (λ (t : ℚ). t ≤ℚ whole (pos grid_square)) (whole-mul w (pos c)) (whole-le (w *ℤ pos c) (pos grid_square) (floor-low (pos grid_square) c p)) in
+    (cls-le (F.mul (F.whole (w *ℤ w)) s) (F.whole (pos grid_square))).1
+    (subst (λ (t : ℚ). t ≤ℚ whole (pos grid_square)) (sym (scaled w s))
+    (cancel_ℚ ((whole w *ℚ whole w) *ℚ cls s) (whole (pos grid_square)) (whole (pos grid_square)) (whole_pos grid_square (omega arith))
+    (short (whole w) (whole (pos c)) (whole q.hi) (cls s) (whole (pos grid_square)) (nonneg_whole grid_square) (nonneg_product w c k.low) quotient root h.high)))
 
-high_factor : (q : Interval) (s : Frac) → IsLength q → Holds q (cls s *ℚ whole (pos N2)) → Le (F.whole (pos N2)) (F.mul (F.whole ((factor q).hi *ℤ (factor q).hi)) s)
+high_factor : (q : Interval) (s : Frac) → IsLength q → Holds q (cls s *ℚ whole (pos grid_square)) → Le (F.whole (pos grid_square)) (F.mul (F.whole ((factor q).hi *ℤ (factor q).hi)) s)
 unfolding factor whole
 high_factor q s l h =
     let f = floor_root q.lo in
-    let w = ceil_of (pos N2) f in
+    let w = ceil_of (pos grid_square) f in
     let root : (whole (pos f) *ℚ whole (pos f)) ≤ℚ whole q.lo = subst (λ (t : ℚ). t ≤ℚ whole q.lo) (whole-mul (pos f) (pos f)) (whole-le (pos (f * f)) q.lo (floor_low q.lo (omega (arith, ints, l.some)))) in
-    let quotient : whole (pos N2) ≤ℚ (whole w *ℚ whole (pos f)) = subst (λ (t : ℚ). whole (pos N2) ≤ℚ t) (whole-mul w (pos f)) (whole-le (pos N2) (w *ℤ pos f) (ceil-high (pos N2) f (floor_some q.lo l.some))) in
-    (cls-le (F.whole (pos N2)) (F.mul (F.whole (w *ℤ w)) s)).1
-    (subst (λ (t : ℚ). whole (pos N2) ≤ℚ t) (sym (scaled w s))
-    (cancel_ℚ (whole (pos N2)) ((whole w *ℚ whole w) *ℚ cls s) (whole (pos N2)) (whole_pos N2 (omega arith))
-    (long (whole w) (whole (pos f)) (whole q.lo) (cls s) (whole (pos N2)) (nonneg_whole N2) quotient root h.low)))
+    let quotient : whole (pos grid_square) ≤ℚ (whole w *ℚ whole (pos f)) = subst (λ (t : ℚ). whole (pos grid_square) ≤ℚ t) (whole-mul w (pos f)) (whole-le (pos grid_square) (w *ℤ pos f) (ceil-high (pos grid_square) f (floor_some q.lo l.some))) in
+    (cls-le (F.whole (pos grid_square)) (F.mul (F.whole (w *ℤ w)) s)).1
+    (subst (λ (t : ℚ). whole (pos grid_square) ≤ℚ t) (sym (scaled w s))
+    (cancel_ℚ (whole (pos grid_square)) ((whole w *ℚ whole w) *ℚ cls s) (whole (pos grid_square)) (whole_pos grid_square (omega arith))
+    (long (whole w) (whole (pos f)) (whole q.lo) (cls s) (whole (pos grid_square)) (nonneg_whole grid_square) quotient root h.low)))
 
 pub makes_unit : (x y z v : Interval) → IsLength (squared_length x y z) → v ≡ factor (squared_length x y z) → MakesUnit x y z v
 makes_unit x y z v l e = subst (λ (t : Interval). MakesUnit x y z t) (sym e) (record {

@@ -17,7 +17,7 @@ use Rattle.rb_num.proofs.Quotients.{floor-le-ceil}
 use Rattle.rb_trig.specs.Ends.{outward, products, squares, clamped, SquaresFit}
 use Rattle.rb_trig.specs.Sine.{scale, step}
 use Rattle.rb_trig.proofs.Steps.{decides_zero}
-use Rattle.rb_trig.proofs.Sizes.{Within, is_interval, fitting_products, step_is_interval}
+use Rattle.rb_trig.proofs.Sizes.{Within, is_interval, fitting_products, square_nonneg, step_is_interval}
 
 -- z as the code holds it
 abbrev pub held : ℤ → ℤ
@@ -91,15 +91,15 @@ outward_makes v (pos n) b r q x y h p e er ex eq ey = at_divisor v b r q x y n e
 outward_makes v (negsuc n) b r q x y h p e er ex eq ey = absurd (omega (arith, ints, p))
 
 -- ---- squares
-squares_ordered : (v : Interval) → SquaresFit v → (b : Bool) → IsInterval (cond b (pos 0) (int_min (v.lo *ℤ v.lo) (v.hi *ℤ v.hi))) (int_max (v.lo *ℤ v.lo) (v.hi *ℤ v.hi))
-squares_ordered v f true =
-    let l = Rattle.rb_trig.proofs.Sizes.square_nonneg v.lo in
+squares_within : (v : Interval) → SquaresFit v → (b : Bool) → IsInterval (cond b (pos 0) (int_min (v.lo *ℤ v.lo) (v.hi *ℤ v.hi))) (int_max (v.lo *ℤ v.lo) (v.hi *ℤ v.hi))
+squares_within v f true =
+    let l = square_nonneg v.lo in
     record { ordered = omega (arith, ints, clamps, l); low = omega (arith, ints); high = omega (arith, ints, clamps, f.low, f.high) }
-squares_ordered v f false = record { ordered = omega (arith, ints, clamps); low = omega (arith, ints, clamps, f.low, f.high); high = omega (arith, ints, clamps, f.low, f.high) }
+squares_within v f false = record { ordered = omega (arith, ints, clamps); low = omega (arith, ints, clamps, f.low, f.high); high = omega (arith, ints, clamps, f.low, f.high) }
 
 pub squares_interval : (v : Interval) → SquaresFit v → IsInterval (squares v).lo (squares v).hi
 unfolding squares
-squares_interval v f = squares_ordered v f (has_zero v)
+squares_interval v f = squares_within v f (has_zero v)
 
 -- the least square, with and without zero between the ends
 with_zero : (v : Interval) → HasZero v → (squares v).lo ≡ pos 0

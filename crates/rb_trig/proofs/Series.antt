@@ -64,7 +64,7 @@ inv_product a b na nb = sym (inv_unique (a *ℚ b) (inv a *ℚ inv b) (λ e. nb 
 unfoldable pub term : Frac → ℕ → ℕ → Frac
 term t k n = quot (F.mul (power minus_one k) (power t n)) (F.whole (pos (factorial n)))
 
-cls-minus : cls minus_one ≡ neg_ℚ 1ℚ
+pub cls-minus : cls minus_one ≡ neg_ℚ 1ℚ
 unfolding F.whole F.neg
 cls-minus = cls_of_neg (F.whole (pos 1)) ∙ ap neg_ℚ cls-one
 

@@ -1,5 +1,5 @@
 -- How large the intervals of the rule can be, so that all of them fit 128 bits.
-use Rattle.std.proofs.Common.{◌≡◌, ℕ, zero, suc, ◌+◌, ◌-◌, ◌*◌, ◌^◌, ◌<◌, ◌≤◌, ℤ, pos, negsuc, ◌+ℤ◌, ◌-ℤ◌, ◌*ℤ◌, neg_ℤ, ◌≤ℤ◌, Bool, true, false, cond, arith}
+use Rattle.std.proofs.Common.{◌≡◌, ℕ, zero, suc, ◌+◌, ◌-◌, ◌*◌, ◌^◌, ◌<◌, ◌≤◌, ℤ, pos, negsuc, ◌*ℤ◌, neg_ℤ, ◌≤ℤ◌, Bool, true, false, cond, refl, arith}
 use Rattle.std.proofs.lemmas.Int.{ints, clamps}
 use Rattle.std.specs.Int.{int_min, int_max}
 use Rattle.rb_num.specs.Refusing.{has_zero}
@@ -165,7 +165,7 @@ spread_small (suc (suc (suc (suc (suc k))))) h = omega arith
 
 spread_first : spread 1 ≡ 2432
 unfolding spread
-spread_first = Rattle.std.proofs.Common.refl
+spread_first = refl
 
 -- what is multiplied on the way fits
 pub step_fits : (s : Series) (u : Interval) (m k : ℕ) → IsSquare u → 2 ≤ k → ProductsFit (u, nested s u k m)
