@@ -1,18 +1,16 @@
 -- The numbers that runs of digits write.
-use Rattle.std.proofs.Common.{◌≡◌, ℕ, zero, suc, ◌+◌, ◌-◌, ◌*◌, ◌/◌, ◌^◌, ◌<◌, ◌≤◌, Bool, true, false, ◌&&◌, ◌||◌, not, cond, eqb, min, List, [], ◌∷◌, ◌++◌, length, take, drop, get_or, refl, sym, ap, ◌∙◌, subst, arith, length-append, length-drop}
+use Rattle.std.proofs.Common.{◌≡◌, ℕ, zero, suc, ◌+◌, ◌-◌, ◌*◌, ◌^◌, ◌<◌, ◌≤◌, Bool, true, false, ◌||◌, not, eqb, List, [], ◌∷◌, ◌++◌, length, take, drop, get_or, refl, sym, ap, ◌∙◌, arith}
 use Rattle.std.specs.List.{list_all, list_any, AllPass}
 use Rattle.std.specs.Char.{is_ascii_digit, digit_value}
 use Rattle.std.specs.Str.Parse.{digits_value, digits_value_after, AllDigits}
-use Rattle.std.proofs.lemmas.Bool.{and_parts, leb-true, cases_lt}
+use Rattle.std.proofs.lemmas.Bool.{and_parts, leb-true}
 use Rattle.std.proofs.lemmas.Bool.Decides.{nat_tests}
-use Rattle.std.proofs.lemmas.List.{take-append-drop, take_all}
+use Rattle.std.proofs.lemmas.List.{take_all}
 use Rattle.std.proofs.lemmas.List.Sums.{list_all-from_AllPass}
 use Rattle.std.proofs.lemmas.Str.{digit_value_digit}
-use Rattle.std.proofs.lemmas.Int.Digits.{digits_value_more, digits_value-lt}
 use Rattle.std.proofs.Math.Nat.{mul-le-mul_left}
 use native.Mathlib.Nat.{pow-suc, pow-le-pow_right, one-le-pow, zero-lt-suc}
 use lib.Pow.{pow-add}
-use Rattle.rb_text.specs.Bracket.{largest}
 
 -- ---- one digit
 pub record Digit (c : ℕ) : Type 0 where
@@ -56,7 +54,7 @@ value_after n (c ∷ cs) =
     let b = value_after (0 * 10 + digit_value c) cs in
     omega (arith, ap (λ (x : ℕ). n * x) (pow-suc 10 (length cs)))
 
-after-append : (n : ℕ) (xs ys : List ℕ) → digits_value_after 10 n (xs ++ ys) ≡ digits_value_after 10 (digits_value_after 10 n xs) ys
+pub after-append : (n : ℕ) (xs ys : List ℕ) → digits_value_after 10 n (xs ++ ys) ≡ digits_value_after 10 (digits_value_after 10 n xs) ys
 after-append n [] ys = refl
 after-append n (x ∷ xs) ys = after-append (n * 10 + digit_value x) xs ys
 
@@ -91,57 +89,64 @@ some_other (c ∷ cs) a t h =
           omega (arith, value_after (0 * 10 + digit_value c) cs, mul-le-mul_left (10 ^ length cs) one, ten_positive (length cs))
     ] refl h
 
--- ---- the whole part
--- the value of the first digits, where it is not too large
-pub record IsReadTo (ds : List ℕ) (k value : ℕ) : Type 0 where
-  pub value_is : value ≡ digits_value 10 (take k ds)
-  pub small : value ≤ largest
+-- ---- digits one by one
+after_grows : (n : ℕ) (ds : List ℕ) → n ≤ digits_value_after 10 n ds
+after_grows n ds = omega (arith, value_after n ds, mul-le-mul_left n (ten_positive (length ds)))
 
-pub read_none : (ds : List ℕ) → IsReadTo ds 0 0
-read_none ds = record { value_is = refl; small = omega arith }
+pub after_more : (n : ℕ) (ds : List ℕ) (k : ℕ) → k < length ds → digits_value_after 10 n (take (k + 1) ds) ≡ digits_value_after 10 n (take k ds) * 10 + digit_value (get_or ds k 0)
+after_more n [] k h = absurd (omega arith)
+after_more n (d ∷ ds) zero h = refl
+after_more n (d ∷ ds) (suc k) h =
+    let s : suc k + 1 ≡ suc (k + 1) = omega arith in
+    rw s (after_more (n * 10 + digit_value d) ds k (omega arith))
 
-pub read_more : (ds : List ℕ) (k value digit : ℕ) → AllPass is_ascii_digit ds → IsReadTo ds k value → k < length ds → digit ≡ get_or ds k 0 - 48 → value * 10 + digit ≡ digits_value 10 (take (k + 1) ds)
-read_more ds k value digit h r l e =
+pub after-take-le : (n : ℕ) (ds : List ℕ) (k : ℕ) → digits_value_after 10 n (take k ds) ≤ digits_value_after 10 n ds
+after-take-le n ds zero = after_grows n ds
+after-take-le n [] (suc k) = omega arith
+after-take-le n (d ∷ ds) (suc k) = after-take-le (n * 10 + digit_value d) ds k
+
+-- the digits that are read so far
+pub record IsReadTo (start : ℕ) (ds : List ℕ) (k value most : ℕ) : Type 0 where
+  pub value_is : value ≡ digits_value_after 10 start (take k ds)
+  pub small : value ≤ most
+
+pub read_more : (start : ℕ) (ds : List ℕ) (k value most digit : ℕ) → AllPass is_ascii_digit ds → IsReadTo start ds k value most → k < length ds → digit ≡ get_or ds k 0 - 48
+    → value * 10 + digit ≡ digits_value_after 10 start (take (k + 1) ds)
+read_more start ds k value most digit h r l e =
     let d = digit_at ds k h l in
-    omega (arith, digits_value_more 10 ds k l, r.value_is)
+    omega (arith, after_more start ds k l, r.value_is)
 
--- ---- the part behind the point
--- the units that the first digits behind a point make
-pub record AreUnits (ds : List ℕ) (k units : ℕ) : Type 0 where
-  pub units_are : units ≡ digits_value 10 (take k ds) * 10 ^ (k - length ds)
-  pub below : units < 10 ^ k
+pub read_past : (start : ℕ) (ds : List ℕ) (k value most digit : ℕ) → AllPass is_ascii_digit ds → IsReadTo start ds k value most → k < length ds → digit ≡ get_or ds k 0 - 48
+    → most < value * 10 + digit → most < digits_value_after 10 start ds
+read_past start ds k value most digit h r l e past = omega (arith, read_more start ds k value most digit h r l e, after-take-le start ds (k + 1))
 
-pub units_more : (ds : List ℕ) (k units : ℕ) → AllPass is_ascii_digit ds → AreUnits ds k units → k < length ds → AreUnits ds (k + 1) (units * 10 + (get_or ds k 0 - 48))
-units_more ds k units h u l =
-    let d = digit_at ds k h l in
-    let zero_one : k + 1 - length ds ≡ 0 = omega arith in
-    let zero_k : k - length ds ≡ 0 = omega arith in
-    let a : units ≡ digits_value 10 (take k ds) * 10 ^ 0 = subst (λ (x : ℕ). units ≡ digits_value 10 (take k ds) * 10 ^ x) zero_k u.units_are in
-    let p : 10 ^ (k + 1) ≡ 10 ^ k * 10 = pow-add 10 k 1 in
-    let goal : units * 10 + (get_or ds k 0 - 48) ≡ digits_value 10 (take (k + 1) ds) * 10 ^ 0 = omega (arith, digits_value_more 10 ds k l) in
-    record {
-      units_are = subst (λ (x : ℕ). units * 10 + (get_or ds k 0 - 48) ≡ digits_value 10 (take (k + 1) ds) * 10 ^ x) (sym zero_one) goal;
-      below = omega (arith, u.below);
-    }
+pub read_all : (start : ℕ) (ds : List ℕ) (k value most : ℕ) → IsReadTo start ds k value most → length ds ≤ k → value ≡ digits_value_after 10 start ds
+read_all start ds k value most r l = r.value_is ∙ ap (digits_value_after 10 start) (take_all k ds l)
 
-pub units_past : (ds : List ℕ) (k units : ℕ) → AreUnits ds k units → length ds ≤ k → AreUnits ds (k + 1) (units * 10 + 0)
-units_past ds k units u l =
-    let s : k + 1 - length ds ≡ (k - length ds) + 1 = omega arith in
-    let a : take k ds ≡ ds = take_all k ds l in
-    let b : take (k + 1) ds ≡ ds = take_all (k + 1) ds (omega arith) in
-    let p : 10 ^ (k + 1) ≡ 10 ^ k * 10 = pow-add 10 k 1 in
-    let q : 10 ^ (k + 1 - length ds) ≡ 10 ^ (k - length ds) * 10 = ap (λ (x : ℕ). 10 ^ x) s ∙ pow-add 10 (k - length ds) 1 in
-    let e : digits_value 10 (take (k + 1) ds) ≡ digits_value 10 (take k ds) = ap (digits_value 10) (b ∙ sym a) in
-    record {
-      units_are = omega (arith, u.units_are, ap (λ (x : ℕ). x * 10 ^ (k + 1 - length ds)) e, ap (λ (x : ℕ). digits_value 10 (take k ds) * x) q);
-      below = omega (arith, u.below);
-    }
+-- ---- zeros behind a number
+zeros_more : (n k : ℕ) → n * 10 ^ (k + 1) ≡ n * 10 ^ k * 10
+zeros_more n k = let p : 10 ^ (k + 1) ≡ 10 ^ k * 10 = pow-add 10 k 1 in omega (arith, ap (λ (x : ℕ). n * x) p)
 
-pub units_none : (ds : List ℕ) → AreUnits ds 0 0
-units_none ds = record { units_are = omega (arith); below = omega arith }
+pub zeros_next : (n k value : ℕ) → value ≡ n * 10 ^ k → value * 10 ≡ n * 10 ^ (k + 1)
+zeros_next n k value e = omega (arith, zeros_more n k)
 
-pub units_small : (ds : List ℕ) (k units : ℕ) → AreUnits ds k units → k < 12 → units < 100000000000
-units_small ds k units u l =
-    let at_most : k ≤ 11 = omega arith in
-    let m : 10 ^ k ≤ 10 ^ 11 = pow-le-pow_right (zero-lt-suc 9) at_most in
-    omega (arith, u.below)
+pub zeros_past : (n k places value most : ℕ) → value ≡ n * 10 ^ k → k < places → most < value * 10 → most < n * 10 ^ places
+zeros_past n k places value most e l past =
+    let up : k + 1 ≤ places = omega arith in
+    let grows : 10 ^ (k + 1) ≤ 10 ^ places = pow-le-pow_right (zero-lt-suc 9) up in
+    omega (arith, zeros_next n k value e, mul-le-mul_left n grows)
+
+-- ---- digits and zeros
+with_zeros-le : (n places : ℕ) → n ≤ n * 10 ^ places
+with_zeros-le n places = omega (arith, mul-le-mul_left n (ten_positive places))
+
+pub whole_past : (whole part : List ℕ) (places most : ℕ) → (digits_value_after 10 0 whole ≤ most → ⊥) → digits_value 10 (whole ++ part) * 10 ^ places ≤ most → ⊥
+whole_past whole part places most above l =
+    above (omega (arith, after-append 0 whole part, after_grows (digits_value_after 10 0 whole) part, with_zeros-le (digits_value 10 (whole ++ part)) places))
+
+pub all_past : (whole part : List ℕ) (start places most : ℕ) → start ≡ digits_value_after 10 0 whole → (digits_value_after 10 start part ≤ most → ⊥) → digits_value 10 (whole ++ part) * 10 ^ places ≤ most → ⊥
+all_past whole part start places most e above l =
+    above (omega (arith, after-append 0 whole part, ap (λ (x : ℕ). digits_value_after 10 x part) e, with_zeros-le (digits_value 10 (whole ++ part)) places))
+
+pub all_read : (whole part : List ℕ) (start value : ℕ) → start ≡ digits_value_after 10 0 whole → value ≡ digits_value_after 10 start part → value ≡ digits_value 10 (whole ++ part)
+all_read whole part start value e f = f ∙ ap (λ (x : ℕ). digits_value_after 10 x part) e ∙ sym (after-append 0 whole part)

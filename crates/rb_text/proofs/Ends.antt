@@ -1,6 +1,6 @@
 -- The text of an end, and the number that it says.
-use Rattle.std.proofs.Common.{◌≡◌, ℕ, zero, suc, ◌+◌, ◌-◌, ◌*◌, ◌/◌, ◌%◌, ◌^◌, ◌<◌, ◌≤◌, ◌<ℤ◌, ◌≤ℤ◌, ℤ, pos, negsuc, neg_ℤ, ◌*ℤ◌, Bool, true, false, ◌&&◌, List, [], ◌∷◌, ◌++◌, length, drop, take, inl, inr, refl, sym, ap, ◌∙◌, subst, arith, length-append, append_assoc}
-use Rattle.std.specs.Prelude.{replicate, decimal, codes}
+use Rattle.std.proofs.Common.{◌≡◌, ℕ, zero, suc, ◌+◌, ◌-◌, ◌*◌, ◌/◌, ◌%◌, ◌^◌, ◌<◌, ◌≤◌, ℤ, pos, negsuc, neg_ℤ, ◌*ℤ◌, true, false, List, [], ◌∷◌, ◌++◌, length, drop, take, inl, inr, refl, sym, ap, ◌∙◌, subst, arith, length-append, append_assoc}
+use Rattle.std.specs.Prelude.{replicate, decimal}
 use Rattle.std.specs.Int.RustNames.{unsigned_abs}
 use Rattle.std.specs.List.{AllPass, list_all, list_any}
 use Rattle.std.specs.Char.{is_ascii_digit, digit_value}
@@ -13,9 +13,9 @@ use Rattle.std.proofs.lemmas.Int.{ints, to_z-of_z}
 use mir.Syntax.{w128}
 use mir.Val.{SFits, to_z, of_z}
 use Rattle.std.proofs.lemmas.Bool.{and_from, le-leb}
-use Rattle.rb_num.specs.Interval.{grid, limit, IsWithin}
-use Rattle.rb_text.specs.Print.{part_text, end_text, minus_text, is_negative, Says}
-use Rattle.rb_text.specs.Decimal.{Decimal, IsDecimal, IsSign, is_blank, signed_by, exact_value}
+use Rattle.rb_num.specs.Interval.{Interval, IsInterval, grid, limit, IsWithin}
+use Rattle.rb_text.specs.Print.{part_text, end_text, iv_text, minus_text, is_negative, Says}
+use Rattle.rb_text.specs.Decimal.{Decimal, IsPlainDecimal, IsDecimal, IsSign, is_blank, signed_by, numerator_of, denominator_of, exact_value}
 use Rattle.rb_text.proofs.Digits.{digits_value-append, is_other, none_other}
 
 few_digits : (n : ℕ) → n < grid → length (decimal n) ≤ 12
@@ -79,6 +79,20 @@ length-end_text z size ds h r f =
       length-append (decimal (n / grid)) (46 ∷ part_text (n % grid)),
     )
 
+end_as_read : (z end : ℤ) → z ≡ end → IsWithin end → length (end_text (to_z w128 (of_z w128 z))) ≡ length (end_text end)
+end_as_read z end e h =
+    let fits : SFits w128 end = omega (arith, ints, h) in
+    ap (λ (x : ℤ). length (end_text (to_z w128 (of_z w128 x)))) e ∙ ap (λ (x : ℤ). length (end_text x)) (to_z-of_z w128 end fits)
+
+-- the length of an interval's text by those of its ends
+pub length-iv_text : (v : Interval) (lo hi : ℤ) → lo ≡ v.lo → hi ≡ v.hi → IsInterval v.lo v.hi
+    → length (iv_text v) ≡ length (end_text (to_z w128 (of_z w128 lo))) + (2 + length (end_text (to_z w128 (of_z w128 hi))))
+unfolding iv_text
+length-iv_text v lo hi e f h =
+    let low : IsWithin v.lo = record { above = h.low; below = omega (arith, ints, h.ordered, h.high) } in
+    let high : IsWithin v.hi = record { above = omega (arith, ints, h.ordered, h.low); below = h.high } in
+    omega (arith, length-append (end_text v.lo) (46 ∷ (46 ∷ end_text v.hi)), end_as_read lo v.lo e low, end_as_read hi v.hi f high)
+
 -- ---- the number that an end says
 digit_passes : (c : ℕ) → digit_value c < 10 → is_ascii_digit c ≡ true
 digit_passes c h = let r = digit_from_value c h in and_from _ _ (le-leb 48 c r.0) (le-leb c 57 r.1)
@@ -115,7 +129,7 @@ part_says n h =
 
 -- the sign, the whole part and the part behind the point
 abbrev decimal_at : ℤ → Decimal
-decimal_at z = record { negative = is_negative z; whole = decimal (unsigned_abs z / grid); part = part_text (unsigned_abs z % grid) }
+decimal_at z = record { negative = is_negative z; whole = decimal (unsigned_abs z / grid); part = part_text (unsigned_abs z % grid); down = false; exponent = [] }
 
 sign_at : (z : ℤ) → IsSign (minus_text z) (is_negative z)
 sign_at (pos n) = inr refl
@@ -125,26 +139,35 @@ signed_at : (z : ℤ) (n : ℕ) → n ≡ unsigned_abs z → signed_by (is_negat
 signed_at (pos m) n e = ap pos e
 signed_at (negsuc m) n e = ap (λ (x : ℕ). neg_ℤ (pos x)) e
 
-end_decimal : (z : ℤ) → IsWithin z → IsDecimal (end_text z) (decimal_at z)
+end_plain : (z : ℤ) → IsWithin z → IsPlainDecimal (end_text z) (decimal_at z)
 unfolding end_text
-end_decimal z h =
+end_plain z h =
     let n = unsigned_abs z in
     let small = within_size z h in
     let wide : n / grid < 10 ^ 64 = omega arith in
     record {
-      before = [];
       sign = minus_text z;
       point = 46 ∷ [];
-      after = [];
+      exponent = [];
       text_is = ap (λ (x : List ℕ). minus_text z ++ (decimal (n / grid) ++ (46 ∷ x))) (sym (append-nil (part_text (n % grid))));
-      before_blank = AllPass-from_list_all is_blank [] refl;
       sign_is = sign_at z;
       whole_digits = decimal_pass (n / grid) wide;
       point_is = inl refl;
       part_digits = part_pass (n % grid) (omega arith);
-      after_blank = AllPass-from_list_all is_blank [] refl;
+      exponent_is = inr (record { text_is = refl; down_is = refl; digits_are = refl });
       some_digit = omega (arith, length-part_text (n % grid) (omega arith));
     }
+
+end_decimal : (z : ℤ) → IsWithin z → IsDecimal (end_text z) (decimal_at z)
+end_decimal z h = record {
+  before = [];
+  plain = end_text z;
+  after = [];
+  text_is = sym (append-nil (end_text z));
+  before_blank = AllPass-from_list_all is_blank [] refl;
+  plain_is = end_plain z h;
+  after_blank = AllPass-from_list_all is_blank [] refl;
+}
 
 end_size : (n : ℕ) → n / grid < 10 ^ 64 → digits_value 10 (decimal (n / grid) ++ part_text (n % grid)) ≡ n
 end_size n wide =
@@ -155,15 +178,24 @@ end_size n wide =
     let tens : 10 ^ length (part_text (n % grid)) ≡ grid = ap (λ (x : ℕ). 10 ^ x) long in
     digits_value-append (decimal (n / grid)) (part_text (n % grid)) ∙ ap (λ (x : ℕ). digits_value 10 (decimal (n / grid)) * x + digits_value 10 (part_text (n % grid))) tens ∙ omega arith
 
+numerator_at : (z : ℤ) → unsigned_abs z / grid < 10 ^ 64 → numerator_of (decimal_at z) ≡ unsigned_abs z
+unfolding numerator_of
+numerator_at z wide = omega (arith, end_size (unsigned_abs z) wide)
+
+denominator_at : (z : ℤ) → denominator_of (decimal_at z) ≡ grid
+unfolding denominator_of
+denominator_at z =
+    let low : unsigned_abs z % grid < grid = omega arith in
+    let tens : 10 ^ length (part_text (unsigned_abs z % grid)) ≡ grid = ap (λ (x : ℕ). 10 ^ x) (length-part_text (unsigned_abs z % grid) low) in
+    omega arith
+
 pub end_says : (z : ℤ) → IsWithin z → Says (end_text z) z
 unfolding exact_value
 end_says z h =
-    let n = unsigned_abs z in
     let small = within_size z h in
-    let wide : n / grid < 10 ^ 64 = omega arith in
-    let low : n % grid < grid = omega arith in
+    let wide : unsigned_abs z / grid < 10 ^ 64 = omega arith in
     record {
       decimal = decimal_at z;
       is_decimal = end_decimal z h;
-      value = ap (λ (x : ℤ). x *ℤ pos grid) (signed_at z _ (end_size n wide)) ∙ ap (λ (x : ℕ). z *ℤ pos (10 ^ x)) (sym (length-part_text (n % grid) low));
+      value = ap (λ (x : ℤ). x *ℤ pos grid) (signed_at z _ (numerator_at z wide)) ∙ ap (λ (x : ℕ). z *ℤ pos x) (sym (denominator_at z));
     }

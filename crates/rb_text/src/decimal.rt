@@ -1,24 +1,32 @@
-ghost use Rattle.std.specs.Prelude.{◌≡◌, ◌≤◌, ◌<◌, ◌*◌, ◌-◌, ◌^◌, ◌++◌, MatchOption, None, Some, length, take, drop, take_while, not, ◌==◌};
-ghost use Rattle.std.specs.List.{AllPass, list_all, list_any};
-ghost use Rattle.std.specs.Option.{SomeIff};
+ghost use Rattle.std.specs.Prelude.{◌≡◌, ◌<◌, None, Some, MatchOption, length, take_while};
+ghost use Rattle.std.specs.List.{list_all};
 ghost use Rattle.std.specs.Char.{is_ascii_digit};
-ghost use Rattle.std.specs.Str.Parse.{digits_value};
-ghost use Rattle.rb_num.specs.Interval.{grid};
-ghost use Rattle.rb_text.specs.Bracket.{largest, IsRounded};
-ghost use Rattle.rb_text.specs.Decimal.{is_blank as is_blank_of, span_of, sign_of, part_of, decimal_of};
+ghost use Rattle.rb_text.specs.Decimal.{decimal_from, is_blank as is_blank_of, span_of, sign_of, part_of, scale_of, exponent_of, start_of, decimal_of, lower_of, upper_of};
 
-/// How many units of the grid make one.
-pub const UNITS: u128 = 1_000_000_000_000;
-
-/// The largest size of a number.
-const LARGEST: u128 = 1_000_000_000_000;
-
-/// The sign of a number, and its digits before and behind the point.
+/// A number: its sign, its digits before and behind the point, and the sign and the digits of its
+/// exponent, of which there are none where it has no exponent.
 #[derive(Clone, Copy)]
 pub struct Decimal<'a> {
     pub negative: bool,
     pub whole: &'a [u8],
     pub part: &'a [u8],
+    pub down: bool,
+    pub exponent: &'a [u8],
+}
+
+// An exponent at the start of a text, and what is behind it.
+#[derive(Clone, Copy)]
+struct Exponent<'a> {
+    down: bool,
+    digits: &'a [u8],
+    rest: &'a [u8],
+}
+
+// A decimal at the start of a text, and what is behind it.
+#[derive(Clone, Copy)]
+struct Start<'a> {
+    decimal: Decimal<'a>,
+    rest: &'a [u8],
 }
 
 fn is_blank(byte: u8) -> bool
@@ -87,78 +95,105 @@ fn part(text: &[u8]) -> (&[u8], &[u8])
     }
 }
 
-/// The decimal that a text is, if it is one.
-#[tactic(auto, unfolding(crate::specs::Decimal::decimal_of))]
-pub fn read_decimal(text: &[u8]) -> Option<Decimal<'_>>
-    ensures exact { MatchOption result (decimal_of text.now ≡ None) (λ d. decimal_of text.now ≡ Some (record { negative = d.negative; whole = d.whole.now; part = d.part.now })) }
+// The sign and the digits behind the letter of the exponent that `text` begins with. Where no digit
+// is there, it is no exponent.
+#[tactic(auto, unfolding(crate::specs::Decimal::scale_of))]
+fn scale<'a>(text: &'a [u8], behind: &'a [u8]) -> Exponent<'a>
+    ensures { scale_of text.now behind.now ≡
+        record { down = result.down; digits = result.digits.now; rest = result.rest.now } }
 {
-    let (negative, rest) = sign(behind_blanks(text));
+    let (down, rest) = sign(behind);
+    let (digits, rest) = digits(rest);
+    if 0 < digits.len() {
+        Exponent { down, digits, rest }
+    } else {
+        Exponent {
+            down: false,
+            digits: &[],
+            rest: text,
+        }
+    }
+}
+
+// The exponent at the start of a text, if there is one.
+#[tactic(auto, unfolding(crate::specs::Decimal::exponent_of))]
+fn read_exponent(text: &[u8]) -> Exponent<'_>
+    ensures { exponent_of text.now ≡
+        record { down = result.down; digits = result.digits.now; rest = result.rest.now } }
+{
+    match text {
+        [b'e' | b'E', behind @ ..] => scale(text, behind),
+        _ => Exponent {
+            down: false,
+            digits: &[],
+            rest: text,
+        },
+    }
+}
+
+// The decimal at the start of a text.
+#[tactic(auto, unfolding(crate::specs::Decimal::start_of))]
+fn read_start(text: &[u8]) -> Option<Start<'_>>
+    ensures { MatchOption result (start_of text.now ≡ None) (λ s.
+        let d = s.decimal in
+        start_of text.now ≡ Some (record {
+          decimal = decimal_from d.negative d.whole.now d.part.now d.down d.exponent.now;
+          rest = s.rest.now;
+        })) }
+{
+    let (negative, rest) = sign(text);
     let (whole, rest) = digits(rest);
     let (part, rest) = part(rest);
-    if is_all_blank(rest) && 0 < whole.len() + part.len() {
-        Some(Decimal {
+    let exponent = read_exponent(rest);
+    if 0 < whole.len() + part.len() {
+        let decimal = Decimal {
             negative,
             whole,
             part,
+            down: exponent.down,
+            exponent: exponent.digits,
+        };
+        Some(Start {
+            decimal,
+            rest: exponent.rest,
         })
     } else {
         None
     }
 }
 
-// The number that the digits write, where it is not too large.
-fn whole_value(digits: &[u8]) -> Option<u128>
-    requires { AllPass is_ascii_digit digits.now }
-    ensures { SomeIff result (digits_value 10 digits.now ≤ largest) (digits_value 10 digits.now) }
+/// The decimal that a text is, with blanks before and behind it.
+#[tactic(auto, unfolding(crate::specs::Decimal::decimal_of))]
+pub fn read_decimal(text: &[u8]) -> Option<Decimal<'_>>
+    ensures { MatchOption result (decimal_of text.now ≡ None) (λ d.
+        decimal_of text.now ≡ Some (decimal_from d.negative d.whole.now d.part.now d.down d.exponent.now)) }
 {
-    let mut value: u128 = 0;
-    for digit in digits {
-        value = value * 10 + u128::from(*digit - b'0');
-        if value > LARGEST {
-            return None;
-        }
+    match read_start(behind_blanks(text)) {
+        Some(start) if is_all_blank(start.rest) => Some(start.decimal),
+        _ => None,
     }
-    Some(value)
 }
 
-// How many units the first twelve digits behind a point make.
-fn part_units(digits: &[u8]) -> u128
-    requires { AllPass is_ascii_digit digits.now }
-    ensures value { result ≡ digits_value 10 (take 12 digits.now) * 10 ^ (12 - length digits.now) }
-    ensures below { result < grid }
+/// The decimal that a text is, with blanks before it.
+#[tactic(auto, unfolding(crate::specs::Decimal::lower_of))]
+pub fn read_lower(text: &[u8]) -> Option<Decimal<'_>>
+    ensures { MatchOption result (lower_of text.now ≡ None) (λ d.
+        lower_of text.now ≡ Some (decimal_from d.negative d.whole.now d.part.now d.down d.exponent.now)) }
 {
-    let mut units: u128 = 0;
-    for place in 0..12 {
-        let digit = if place < digits.len() {
-            digits[place] - b'0'
-        } else {
-            0
-        };
-        units = units * 10 + u128::from(digit);
+    match read_start(behind_blanks(text)) {
+        Some(start) if start.rest.is_empty() => Some(start.decimal),
+        _ => None,
     }
-    units
 }
 
-// Whether a digit behind the first twelve is not 0.
-fn has_more(digits: &[u8]) -> bool
-    ensures { result ≡ list_any (λ digit. not (digit == 48)) (drop 12 digits.now) }
+/// The decimal that a text is, with blanks behind it.
+#[tactic(auto, unfolding(crate::specs::Decimal::upper_of))]
+pub fn read_upper(text: &[u8]) -> Option<Decimal<'_>>
+    ensures { MatchOption result (upper_of text.now ≡ None) (λ d.
+        upper_of text.now ≡ Some (decimal_from d.negative d.whole.now d.part.now d.down d.exponent.now)) }
 {
-    digits.iter().skip(12).any(|digit| *digit != b'0')
-}
-
-/// The size of a number in units of the grid, rounded down and up, where it is not too large.
-pub fn size_of(whole: &[u8], part: &[u8]) -> Option<(u128, u128)>
-    requires whole { AllPass is_ascii_digit whole.now }
-    requires part { AllPass is_ascii_digit part.now }
-    ensures { let size = digits_value 10 (whole.now ++ part.now) in
-        let tens = 10 ^ length part.now in
-        MatchOption result (largest * tens < size) (λ r. IsRounded size tens r.0 r.1) }
-{
-    let low = whole_value(whole)? * UNITS + part_units(part);
-    let high = if has_more(part) { low + 1 } else { low };
-    if high > LARGEST * UNITS {
-        None
-    } else {
-        Some((low, high))
+    match read_start(text) {
+        Some(start) if is_all_blank(start.rest) => Some(start.decimal),
+        _ => None,
     }
 }

@@ -1,9 +1,11 @@
-//! Number texts: the bracket of a decimal text, and a buffer that intervals are printed to.
+//! Number texts: the bracket of a decimal text or of a range, and a buffer that intervals are printed to.
 #![tactic(auto)]
 
 mod bracket;
+mod buffer;
 mod decimal;
-mod out;
+mod range;
+mod size;
 
 pub use bracket::{TextFault, read_bracket};
-pub use out::Out;
+pub use buffer::Out;

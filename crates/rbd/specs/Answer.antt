@@ -11,7 +11,7 @@ use Rattle.rbd.specs.declared.fault.Quantity.TheVariants.{Acceleration, NeededFo
 use Rattle.rbd.specs.declared.fault.RowFault.TheVariants.{Size}
 use Rattle.rbd.specs.declared.field.FieldFault.{FieldFault}
 use Rattle.rbd.specs.declared.field.FieldKind.{FieldKind}
-use Rattle.rbd.specs.declared.field.FieldKind.TheVariants.{Count, NotNumber, TooLarge}
+use Rattle.rbd.specs.declared.field.FieldKind.TheVariants.{Count, NotNumber, Backwards, TooLarge}
 use Rattle.rbd.specs.Chain.{Links}
 
 -- the column of a slider's torque, behind its comma
@@ -37,6 +37,7 @@ name_text name = letter_of name.quantity ∷ index_text name.body
 abbrev pub kind_text : FieldKind → List ℕ
 kind_text Count = codes "Count"
 kind_text NotNumber = codes "NotNumber"
+kind_text Backwards = codes "Backwards"
 kind_text TooLarge = codes "TooLarge"
 
 unfoldable pub fault_text : FieldFault → List ℕ

@@ -8,7 +8,7 @@ use Rattle.rb_text.specs.declared.bracket.TextFault.TheVariants as text
 use Rattle.rbd.specs.declared.chain.Slider.{Slider}
 use Rattle.rbd.specs.declared.field.FieldFault.{FieldFault}
 use Rattle.rbd.specs.declared.field.FieldKind.{FieldKind}
-use Rattle.rbd.specs.declared.field.FieldKind.TheVariants.{Count, NotNumber, TooLarge}
+use Rattle.rbd.specs.declared.field.FieldKind.TheVariants.{Count, NotNumber, Backwards, TooLarge}
 use Rattle.rbd.specs.Chain.{Links}
 
 -- the column of a slider's acceleration
@@ -33,11 +33,16 @@ is_comma byte = byte == 44
 abbrev pub fields : List ℕ → List (List ℕ)
 fields line = slice_split is_comma line
 
+-- the kind of a field whose text has this fault
+abbrev pub kind_of : TextFault → FieldKind
+kind_of text.NotNumber = NotNumber
+kind_of text.TooLarge = TooLarge
+kind_of text.Backwards = Backwards
+
 -- the answer of a field that has this number
 abbrev pub numbered : ℕ → Result Interval TextFault → Result Interval FieldFault
 numbered number (Ok interval) = Ok interval
-numbered number (Err text.NotNumber) = Err (field_fault NotNumber number)
-numbered number (Err text.TooLarge) = Err (field_fault TooLarge number)
+numbered number (Err fault) = Err (field_fault (kind_of fault) number)
 
 -- the interval of a field: 0 where it is empty
 abbrev pub field_of : List ℕ → Result Interval TextFault

@@ -7,6 +7,8 @@ pub enum FieldKind {
     Count,
     /// A field is not empty and is not a number.
     NotNumber,
+    /// An end of a field's range is above the same end of its second number.
+    Backwards,
     /// A field's number is above the limit of numbers.
     TooLarge,
 }

@@ -81,6 +81,7 @@ fn kind_word(kind: FieldKind) -> &'static [u8]
     match kind {
         FieldKind::Count => b"Count",
         FieldKind::NotNumber => b"NotNumber",
+        FieldKind::Backwards => b"Backwards",
         FieldKind::TooLarge => b"TooLarge",
     }
 }
@@ -265,6 +266,11 @@ mod tests {
                 13,
                 field(FieldKind::TooLarge, 1),
                 b"13,field,TooLarge[1],,,\n".as_slice(),
+            ),
+            (
+                13,
+                field(FieldKind::Backwards, 2),
+                b"13,field,Backwards[2],,,\n".as_slice(),
             ),
             (
                 14,

@@ -1,6 +1,6 @@
 //! The header, and the fields of a row.
 ghost use Rattle.std.specs.Prelude.{◌≡◌, ◌≢◌, ◌≤◌, ◌<◌, ◌+◌, ◌↔◌, ℕ, List, [], ◌∷◌, ◌++◌, IsTrue, length, flat_map, position, count_by, MatchOption, OnOk, IfErr, Ok, Err};
-ghost use Rattle.rbd.specs.Fields.{header_of, column_of, next_column_of, is_comma, fields, field_of, numbered, intervals_of, row_of};
+ghost use Rattle.rbd.specs.Fields.{header_of, column_of, next_column_of, is_comma, fields, field_of, kind_of, numbered, intervals_of, row_of};
 
 use crate::chain::{Chain, Slider};
 use crate::field::{FieldFault, FieldKind};
@@ -92,6 +92,17 @@ fn first_field(line: &[u8]) -> (&[u8], &[u8])
     }
 }
 
+// The kind of a field whose text has this fault.
+fn kind_of(fault: TextFault) -> FieldKind
+    ensures { result ≡ kind_of fault }
+{
+    match fault {
+        TextFault::NotNumber => FieldKind::NotNumber,
+        TextFault::TooLarge => FieldKind::TooLarge,
+        TextFault::Backwards => FieldKind::Backwards,
+    }
+}
+
 // The interval of the field of this number: 0 where it is empty.
 fn read_field(field: &[u8], number: u32) -> Result<Iv, FieldFault>
     ensures { result ≡ numbered number (field_of field.now) }
@@ -101,12 +112,8 @@ fn read_field(field: &[u8], number: u32) -> Result<Iv, FieldFault>
     }
     match read_bracket(field) {
         Ok(value) => Ok(value),
-        Err(TextFault::NotNumber) => Err(FieldFault {
-            kind: FieldKind::NotNumber,
-            field: number,
-        }),
-        Err(TextFault::TooLarge) => Err(FieldFault {
-            kind: FieldKind::TooLarge,
+        Err(fault) => Err(FieldFault {
+            kind: kind_of(fault),
             field: number,
         }),
     }

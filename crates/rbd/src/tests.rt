@@ -169,12 +169,12 @@ fn fields_are_refused(rt: HostRuntime) -> Result<(), Fail> {
     let ran = run_over(
         rt.alloc(),
         LIFT,
-        b"a.lift\r\n1.5,0\r\n\r\nx\n2000000000000\n1e3\n1..2\n+.5",
+        b"a.lift\r\n1.5,0\r\n\r\nx\n2000000000000\n1e3\n1..2\n2..1\n+.5",
     )?;
     assert_eq!(rt; ran.status, Status::Refused);
     assert_eq!(rt;
         ran.out.bytes(),
-        b"row,answer,cause,tau.lift\n1,field,Count[2],\n2,field,NotNumber[1],\n3,field,TooLarge[1],\n4,field,NotNumber[1],\n5,field,NotNumber[1],\n6,ok,,20.620000000000..20.620000000000\n".as_slice()
+        b"row,answer,cause,tau.lift\n1,field,Count[2],\n2,field,NotNumber[1],\n3,field,TooLarge[1],\n4,ok,,2019.620000000000..2019.620000000000\n5,ok,,21.620000000000..23.620000000000\n6,field,Backwards[1],\n7,ok,,20.620000000000..20.620000000000\n".as_slice()
     );
     assert_eq!(rt; ran.err.bytes(), b"".as_slice());
     Ok(())

@@ -5,8 +5,10 @@ use Rattle.rb_text.proofs.bracket.bracket.Goals as goal
 
 pub returns-in-Some : goal.returns-in-Some
 returns-in-Some c =
-    ap (λ (v : Interval). Ok v) c.signed.ensures
-    ∙ sym (value_rounded c.args.negative c.args.whole.now c.args.part.now c.in-Some.low c.in-Some.high c.in-Some.ensures)
+    let d = c.args.decimal in
+    ap (λ (v : Interval). Ok v) c.signed.ensures ∙ sym (value_rounded d.negative d.whole.now d.part.now d.down d.exponent.now c.in-Some.low c.in-Some.high c.in-Some.ensures)
 
 pub returns-in-None : goal.returns-in-None
-returns-in-None c = sym (value_large c.args.negative c.args.whole.now c.args.part.now c.in-None.ensures)
+returns-in-None c =
+    let d = c.args.decimal in
+    sym (value_large d.negative d.whole.now d.part.now d.down d.exponent.now c.in-None.ensures)

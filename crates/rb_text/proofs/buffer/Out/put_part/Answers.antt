@@ -1,7 +1,7 @@
-use Rattle.std.proofs.Common.{◌≤◌, ◌-◌, ◌++◌, ◌∙◌, ℕ, List, rules, arith, length, ap}
+use Rattle.std.proofs.Common.{◌-◌, ◌++◌, ◌∙◌, ℕ, List, rules, arith, length, ap}
 use Rattle.std.proofs.lemmas.List.{length-replicate}
 use Rattle.rb_text.proofs.Ends.{few_bytes, padded, rest_of_zeros}
-use Rattle.rb_text.proofs.out.Out.put_part.Goals as goal
+use Rattle.rb_text.proofs.buffer.Out.put_part.Goals as goal
 
 pub slice_bounds-put-count : goal.slice_bounds-put-count
 slice_bounds-put-count c =

@@ -2,7 +2,7 @@ ghost use Rattle.std.specs.Prelude.{◌≡◌, ◌≤◌, ◌<◌, ◌-◌, ◌+
 ghost use Rattle.rb_num.specs.Interval.{IsWithin, grid};
 ghost use Rattle.rb_text.specs.Print.{part_text, minus_text, end_text, iv_text, Says};
 
-use crate::decimal::UNITS;
+use crate::size::UNITS;
 use itoa::Buffer;
 use rb_num::Iv;
 use std::alloc::{AllocError, Global};

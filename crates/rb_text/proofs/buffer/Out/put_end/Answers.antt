@@ -1,6 +1,6 @@
 use Rattle.std.proofs.Common.{◌∙◌, arith}
 use Rattle.rb_text.proofs.Ends.{whole_bytes, length-end_text, end_says}
-use Rattle.rb_text.proofs.out.Out.put_end.Goals as goal
+use Rattle.rb_text.proofs.buffer.Out.put_end.Goals as goal
 
 pub put-requires : goal.put-requires
 put-requires c =
