@@ -1,45 +1,30 @@
 -- What is written as the grammar says is read again.
-use Rattle.std.proofs.Common.{◌≡◌, ◌≢◌, ℕ, zero, suc, ◌+◌, ◌<◌, ◌≤◌, Bool, true, false, cond, eqb, List, [], ◌∷◌, ◌++◌, length, map, Ok, Err, refl, sym, ap, subst, ◌∙◌, append_assoc, arith, ◌&&◌, ◌||◌}
-use Rattle.std.specs.List.{prefix_len, take_while, AllPass, All, AllPairs, AllByRecursion, flat_map}
-use Rattle.std.specs.Str.{bytes_eq}
-use Rattle.std.proofs.lemmas.Slice.Eq.{bytes_eq-Decides}
+use Rattle.std.proofs.Common.{◌≡◌, ◌≢◌, ℕ, zero, suc, ◌+◌, ◌<◌, ◌≤◌, Bool, true, false, not, eqb, List, [], ◌∷◌, ◌++◌, length, map, codes, Some, refl, sym, ap, subst, ◌∙◌, append_assoc, arith, ◌&&◌, ◌||◌}
+use Rattle.std.specs.List.{take_while, AllByRecursion, flat_map}
+use Rattle.std.proofs.lemmas.Bool.{eq-eqb}
 use Rattle.std.proofs.lemmas.Bool.Decides.{nat_tests}
-use Rattle.std.proofs.lemmas.List.{length-append, take_at, drop_at}
-use Rattle.std.proofs.lemmas.List.Elements.{All-head, All-tail}
+use Rattle.std.proofs.lemmas.List.{length-append, append-nil}
+use Rattle.std.proofs.lemmas.List.Elements.{All-head}
 use Rattle.std.proofs.lemmas.List.Concat.{flat_map-cons}
-use Rattle.rb_tags.specs.Faults.{unbuilt}
-use Rattle.rb_tags.specs.Bytes.{is_space, is_printable, is_plain, is_name_byte, is_value_byte, past, past_byte}
-use Rattle.rb_tags.specs.Marks.{name_at, attr_at, is_nonempty, attr_follows, attrs_at, has_name, are_distinct, tag_end_at, start_at, end_at}
-use Rattle.rb_tags.specs.Grammar.{IsSpace, IsName, WrittenAttr, IsAttr, attr_text, attr_of, WrittenStart, IsStart, start_text, WrittenEnd, IsEnd, end_text}
-use Rattle.rb_tags.proofs.Takes.{start_of}
-
--- the first byte, if there is one, does not pass
-abbrev pub Stops : (ℕ → Bool) → List ℕ → Type 0
-Stops p [] = Unit {0}
-Stops p (b ∷ bs) = p b ≡ false
-
-prefix_len_run : (p : ℕ → Bool) (run rest : List ℕ) → AllPass p run → Stops p rest → prefix_len p (run ++ rest) ≡ length run
-prefix_len_run p [] [] all stops = refl
-prefix_len_run p [] (b ∷ bs) all stops = rw stops refl
-prefix_len_run p (b ∷ run) rest all stops =
-    let first : p b ≡ true = All-head (λ x. p x ≡ true) b run all in
-    let others = prefix_len_run p run rest (All-tail (λ x. p x ≡ true) b run all) stops in
-    rw first (omega (arith, others))
-
-pub run_again : (p : ℕ → Bool) (run rest : List ℕ) → AllPass p run → Stops p rest → take_while p (run ++ rest) ≡ run
-run_again p run rest all stops = take_at run rest (prefix_len p (run ++ rest)) (sym (prefix_len_run p run rest all stops))
-
-pub past_again : (p : ℕ → Bool) (run rest : List ℕ) → AllPass p run → Stops p rest → past p (run ++ rest) ≡ rest
-unfolding past
-past_again p run rest all stops = drop_at run rest (prefix_len p (run ++ rest)) (sym (prefix_len_run p run rest all stops))
+use Rattle.rb_tags.specs.Bytes.{is_space, is_name_byte, is_value_byte, is_quote, past}
+use Rattle.rb_tags.specs.Marks.{name_at, opening_at, quoted_at, attr_at, is_nonempty, attr_follows, attrs_at, ending_of, start_in, end_in}
+use Rattle.rb_tags.specs.Values.{piece_value}
+use Rattle.rb_tags.specs.Grammar.{IsSpace, IsName, WrittenAttr, IsAttr, value_text, attr_text, attr_of, WrittenStart, IsStart, start_of, WrittenEnd, IsEnd}
+use Rattle.rb_tags.proofs.Runs.{front_found, Stops, run_again, past_again}
+use Rattle.rb_tags.proofs.TakesTag.{slash}
+use Rattle.rb_tags.proofs.ValueLaws.{value_complete}
 
 space_no_name : (b : ℕ) → is_space b ≡ true → is_name_byte b ≡ false
-unfolding is_space is_name_byte is_printable is_plain
+unfolding is_space is_name_byte
 space_no_name b h = grind (arith, nat_tests)
 
 name_no_space : (b : ℕ) → is_name_byte b ≡ true → is_space b ≡ false
-unfolding is_space is_name_byte is_printable is_plain
+unfolding is_space is_name_byte
 name_no_space b h = grind (arith, nat_tests)
+
+quote_no_space : (b : ℕ) → is_quote b ≡ true → is_space b ≡ false
+unfolding is_space is_quote
+quote_no_space b h = grind (arith, nat_tests)
 
 -- white space ends a name
 stops_space : (space rest : List ℕ) → IsSpace space → Stops is_name_byte rest → Stops is_name_byte (space ++ rest)
@@ -55,45 +40,60 @@ stops_name : (name rest : List ℕ) → IsName name → Stops is_space (name ++ 
 stops_name [] rest h = absurd (let e = h.begins in cc)
 stops_name (b ∷ name) rest h = name_no_space b (All-head (λ x. is_name_byte x ≡ true) b name h.of_name_bytes)
 
-stops_equals : (rest : List ℕ) → Stops is_name_byte (61 ∷ rest)
-unfolding is_name_byte is_printable is_plain
-stops_equals rest = refl
+equals_stops : (rest : List ℕ) → Stops is_name_byte (61 ∷ rest) × Stops is_space (61 ∷ rest)
+unfolding is_name_byte is_space
+equals_stops rest = (refl, refl)
 
-space_stops : (rest : List ℕ) → Stops is_space (61 ∷ rest) × Stops is_space (34 ∷ rest) × Stops is_space (62 ∷ rest) × Stops is_space (47 ∷ rest) × Stops is_space (60 ∷ rest)
-unfolding is_space
-space_stops rest = (refl, refl, refl, refl, refl)
+value_stops : (quote : ℕ) (rest : List ℕ) → Stops (is_value_byte quote) (quote ∷ rest)
+unfolding is_value_byte
+value_stops quote rest = rw (eq-eqb quote quote refl) refl
 
-value_stops : (rest : List ℕ) → Stops is_value_byte (34 ∷ rest)
-unfolding is_value_byte is_space is_printable is_plain
-value_stops rest = refl
-
-end_stops : (rest : List ℕ) → Stops is_name_byte (62 ∷ rest) × Stops is_name_byte (47 ∷ rest)
-unfolding is_name_byte is_printable is_plain
-end_stops rest = (refl, refl)
-
-pub name_again : (name rest : List ℕ) → IsName name → Stops is_name_byte rest → name_at (name ++ rest) ≡ Ok (name, rest)
+name_again : (name rest : List ℕ) → IsName name → Stops is_name_byte rest → name_at (name ++ rest) ≡ Some (name, rest)
 unfolding name_at
 name_again name rest h stops = rw (run_again is_name_byte name rest h.of_name_bytes stops, h.begins, past_again is_name_byte name rest h.of_name_bytes stops) refl
 
+-- a value in quotes
+quoted : WrittenAttr → List ℕ → List ℕ
+quoted a rest = a.quote ∷ (value_text a ++ a.quote ∷ rest)
+
+opening_again : (quote : ℕ) (rest : List ℕ) → is_quote quote ≡ true → opening_at (quote ∷ rest) ≡ Some (quote, rest)
+unfolding opening_at
+opening_again quote rest h = rw h refl
+
+quoted_again : (a : WrittenAttr) (rest : List ℕ) → IsAttr a → quoted_at (quoted a rest) ≡ Some (flat_map piece_value a.pieces, rest)
+unfolding quoted_at quoted
+quoted_again a rest h =
+    let says = value_complete (value_text a) (flat_map piece_value a.pieces) (record { pieces = a.pieces; are_pieces = h.pieces; text_is = refl; value_is = refl }) in
+    rw (
+      opening_again a.quote (value_text a ++ a.quote ∷ rest) h.quote,
+      past_again (is_value_byte a.quote) (value_text a) (a.quote ∷ rest) h.value (value_stops a.quote rest),
+      front_found (a.quote ∷ []) rest,
+      run_again (is_value_byte a.quote) (value_text a) (a.quote ∷ rest) h.value (value_stops a.quote rest),
+      says,
+    ) refl
+
+quoted_stops : (a : WrittenAttr) (rest : List ℕ) → IsAttr a → Stops is_space (quoted a rest)
+unfolding quoted
+quoted_stops a rest h = quote_no_space a.quote h.quote
+
 -- an attribute from after the white space before it
 body : WrittenAttr → List ℕ → List ℕ
-body a rest = a.name ++ (a.left ++ 61 ∷ (a.right ++ 34 ∷ (a.value ++ 34 ∷ rest)))
+body a rest = a.name ++ (a.left ++ 61 ∷ (a.right ++ quoted a rest))
 
-attr_again : (a : WrittenAttr) (rest : List ℕ) → IsAttr a → attr_at (body a rest) ≡ Ok (attr_of a, rest)
+attr_again : (a : WrittenAttr) (rest : List ℕ) → IsAttr a → attr_at (body a rest) ≡ Some (attr_of a, rest)
 unfolding attr_at body
 attr_again a rest h =
-    let quoted = a.value ++ 34 ∷ rest in
-    let valued = a.right ++ 34 ∷ quoted in
+    let valued = a.right ++ quoted a rest in
     rw (
-      name_again a.name (a.left ++ 61 ∷ valued) h.name (stops_space a.left (61 ∷ valued) h.left (stops_equals valued)),
-      past_again is_space a.left (61 ∷ valued) h.left (space_stops valued).0,
-      past_again is_space a.right (34 ∷ quoted) h.right (space_stops quoted).1,
-      past_again is_value_byte a.value (34 ∷ rest) h.value (value_stops rest),
-      run_again is_value_byte a.value (34 ∷ rest) h.value (value_stops rest),
+      name_again a.name (a.left ++ 61 ∷ valued) h.name (stops_space a.left (61 ∷ valued) h.left (equals_stops valued).0),
+      past_again is_space a.left (61 ∷ valued) h.left (equals_stops valued).1,
+      front_found (codes "=") valued,
+      past_again is_space a.right (quoted a rest) h.right (quoted_stops a rest h),
+      quoted_again a rest h,
     ) refl
 
 attr_cut : (a : WrittenAttr) (rest : List ℕ) → attr_text a ++ rest ≡ a.before ++ body a rest
-unfolding body
+unfolding body quoted
 attr_cut a rest = simp append_assoc
 
 some_is : (bytes : List ℕ) → bytes ≢ [] → is_nonempty bytes ≡ true
@@ -107,14 +107,14 @@ name_some (b ∷ name) h e = cc
 attr_is_next : (a : WrittenAttr) (rest : List ℕ) → IsAttr a → (attr_follows (attr_text a ++ rest) ≡ true) × (past is_space (attr_text a ++ rest) ≡ body a rest)
 unfolding attr_follows body
 attr_is_next a rest h =
-    let valued = a.right ++ 34 ∷ (a.value ++ 34 ∷ rest) in
+    let valued = a.right ++ quoted a rest in
     let whole = a.name ++ (a.left ++ 61 ∷ valued) in
     let stops = stops_name a.name (a.left ++ 61 ∷ valued) h.name in
     let past_it = past_again is_space a.before whole h.before stops in
-    let follows : attr_follows (a.before ++ whole) ≡ true = rw (run_again is_space a.before whole h.before stops, past_it, run_again is_name_byte a.name (a.left ++ 61 ∷ valued) h.name.of_name_bytes (stops_space a.left (61 ∷ valued) h.left (stops_equals valued)), some_is a.before h.apart, some_is a.name (name_some a.name h.name)) refl in
+    let follows : attr_follows (a.before ++ whole) ≡ true = rw (run_again is_space a.before whole h.before stops, past_it, run_again is_name_byte a.name (a.left ++ 61 ∷ valued) h.name.of_name_bytes (stops_space a.left (61 ∷ valued) h.left (equals_stops valued).0), some_is a.before h.apart, some_is a.name (name_some a.name h.name)) refl in
     (ap attr_follows (attr_cut a rest) ∙ follows, ap (past is_space) (attr_cut a rest) ∙ past_it)
 
-pub attrs_again : (n : ℕ) (attrs : List WrittenAttr) (rest : List ℕ) → AllByRecursion IsAttr attrs → length attrs ≤ n → attr_follows rest ≡ false → attrs_at n (flat_map attr_text attrs ++ rest) ≡ Ok (map attr_of attrs, rest)
+attrs_again : (n : ℕ) (attrs : List WrittenAttr) (rest : List ℕ) → AllByRecursion IsAttr attrs → length attrs ≤ n → attr_follows rest ≡ false → attrs_at n (flat_map attr_text attrs ++ rest) ≡ Some (map attr_of attrs, rest)
 unfolding attrs_at
 attrs_again zero [] rest all enough ends = refl
 attrs_again zero (a ∷ attrs) rest all enough ends = absurd (omega arith)
@@ -125,40 +125,15 @@ attrs_again (suc n) (a ∷ attrs) rest all enough ends =
     let next = attr_is_next a others all.0 in
     ap (attrs_at (suc n)) cut ∙ rw (next.0, next.1, attr_again a others all.0, attrs_again n attrs rest all.1 (omega arith) ends) refl
 
-names_differ : (name : List ℕ) (attrs : List WrittenAttr) → All (λ a. name ≢ a.name) attrs → has_name name (map attr_of attrs) ≡ false
-names_differ name [] all = refl
-names_differ name (a ∷ attrs) all =
-    let first = All-head (λ (x : WrittenAttr). name ≢ x.name) a attrs all in
-    none (bytes_eq a.name name) (has_name name (map attr_of attrs)) (λ same. first (sym ((bytes_eq-Decides a.name name).0 same))) (names_differ name attrs (All-tail (λ (x : WrittenAttr). name ≢ x.name) a attrs all))
-  where
-    none : (b c : Bool) → (b ≡ true → ⊥) → c ≡ false → (b || c) ≡ false
-    none true c differs e = absurd (differs refl)
-    none false c differs e = e
+ending_again : (closes : Bool) → ending_of (slash closes) ≡ Some closes
+unfolding ending_of
+ending_again true = refl
+ending_again false = refl
 
-differ_later : (a : WrittenAttr) (attrs : List WrittenAttr) → AllPairs (λ x y. x.name ≢ y.name) (a ∷ attrs) → All (λ y. a.name ≢ y.name) attrs
-differ_later a attrs pairs = λ i d lt. pairs 0 (suc i) d (omega arith) (omega arith)
-
-differ_rest : (a : WrittenAttr) (attrs : List WrittenAttr) → AllPairs (λ x y. x.name ≢ y.name) (a ∷ attrs) → AllPairs (λ x y. x.name ≢ y.name) attrs
-differ_rest a attrs pairs = λ i j d lt within. pairs (suc i) (suc j) d (omega arith) (omega arith)
-
-distinct_again : (attrs : List WrittenAttr) → AllPairs (λ x y. x.name ≢ y.name) attrs → are_distinct (map attr_of attrs) ≡ true
-distinct_again [] pairs = refl
-distinct_again (a ∷ attrs) pairs =
-    rw (names_differ a.name attrs (differ_later a attrs pairs)) (distinct_again attrs (differ_rest a attrs pairs))
-
--- the end of a start tag, and what follows it
-pub ending : Bool → List ℕ → List ℕ
-ending closes rest = cond closes (47 ∷ 62 ∷ []) (62 ∷ []) ++ rest
-
-tag_end_again : (closes : Bool) (rest : List ℕ) → tag_end_at (ending closes rest) ≡ Ok (closes, rest)
-unfolding tag_end_at ending
-tag_end_again true rest = refl
-tag_end_again false rest = refl
-
-ending_stops : (closes : Bool) (rest : List ℕ) → Stops is_name_byte (ending closes rest) × Stops is_space (ending closes rest)
-unfolding ending
-ending_stops true rest = ((end_stops (62 ∷ rest)).1, (space_stops (62 ∷ rest)).3)
-ending_stops false rest = ((end_stops rest).0, (space_stops rest).2)
+slash_stops : (closes : Bool) → Stops is_name_byte (slash closes) × Stops is_space (slash closes)
+unfolding is_name_byte is_space
+slash_stops true = (refl, refl)
+slash_stops false = (tt, tt)
 
 -- no attribute follows at the end of a start tag
 no_attr : (after rest : List ℕ) → IsSpace after → Stops is_name_byte rest → Stops is_space rest → attr_follows (after ++ rest) ≡ false
@@ -184,56 +159,55 @@ attrs_fewer (a ∷ attrs) =
     let some : 0 < length (attr_text a) = simp length-append (omega arith) in
     omega (arith, attrs_fewer attrs)
 
-pub start_body : WrittenStart → List ℕ → List ℕ
-start_body s rest = s.name ++ (flat_map attr_text s.attrs ++ (s.after ++ ending s.closes rest))
+-- all that stands between the < and the > of a start tag
+unfoldable pub start_inside : WrittenStart → List ℕ
+start_inside s = s.name ++ (flat_map attr_text s.attrs ++ (s.after ++ slash s.closes))
 
-pub start_cut : (s : WrittenStart) (rest : List ℕ) → start_text s ++ rest ≡ 60 ∷ start_body s rest
-unfolding start_body ending
-start_cut s rest = simp append_assoc
-
-pub start_again : (s : WrittenStart) (rest : List ℕ) → IsStart s → start_at (start_body s rest) ≡ Ok (start_of s, rest)
-unfolding start_at start_body
-start_again s rest h =
-    let tail = s.after ++ ending s.closes rest in
+pub start_again : (s : WrittenStart) → IsStart s → start_in (start_inside s) ≡ Some (start_of s)
+unfolding start_in start_inside
+start_again s h =
+    let tail = s.after ++ slash s.closes in
     let text = flat_map attr_text s.attrs in
-    let stops = ending_stops s.closes rest in
+    let stops = slash_stops s.closes in
     let fewer : length s.attrs ≤ length (text ++ tail) = omega (arith, attrs_fewer s.attrs, length-append text tail) in
     rw (
-      name_again s.name (text ++ tail) h.name (attrs_stop s.attrs tail h.attrs (stops_space s.after (ending s.closes rest) h.after stops.0)),
-      attrs_again (length (text ++ tail)) s.attrs tail h.attrs fewer (no_attr s.after (ending s.closes rest) h.after stops.0 stops.1),
-      past_again is_space s.after (ending s.closes rest) h.after stops.1,
-      tag_end_again s.closes rest,
-      distinct_again s.attrs h.distinct,
+      name_again s.name (text ++ tail) h.name (attrs_stop s.attrs tail h.attrs (stops_space s.after (slash s.closes) h.after stops.0)),
+      attrs_again (length (text ++ tail)) s.attrs tail h.attrs fewer (no_attr s.after (slash s.closes) h.after stops.0 stops.1),
+      past_again is_space s.after (slash s.closes) h.after stops.1,
+      ending_again s.closes,
     ) refl
 
-not_slash : (b : ℕ) → is_name_byte b ≡ true → eqb b 47 ≡ false
-unfolding is_name_byte is_printable is_plain
-not_slash b e = grind (arith, nat_tests)
-
--- a start tag is no end tag
-pub no_slash : (s : WrittenStart) (rest : List ℕ) → IsStart s → past_byte 47 (start_body s rest) ≡ Err unbuilt
-unfolding start_body
-no_slash s rest h = first s.name h.name
-  where
-    first : (name : List ℕ) → IsName name → past_byte 47 (name ++ (flat_map attr_text s.attrs ++ (s.after ++ ending s.closes rest))) ≡ Err unbuilt
-    first [] is = absurd (name_some [] is refl)
-    first (b ∷ name) is = rw (not_slash b (All-head (λ x. is_name_byte x ≡ true) b name is.of_name_bytes)) refl
-
-pub end_body : WrittenEnd → List ℕ → List ℕ
-end_body e rest = e.name ++ (e.after ++ 62 ∷ rest)
-
-pub end_cut : (e : WrittenEnd) (rest : List ℕ) → end_text e ++ rest ≡ 60 ∷ 47 ∷ end_body e rest
-unfolding end_body
-end_cut e rest = simp append_assoc
-
-pub end_again : (e : WrittenEnd) (rest : List ℕ) → IsEnd e → end_at (end_body e rest) ≡ Ok (e.name, rest)
-unfolding end_at end_body
-end_again e rest h =
-    rw (
-      name_again e.name (e.after ++ 62 ∷ rest) h.name (stops_space e.after (62 ∷ rest) h.after (end_stops rest).0),
-      past_again is_space e.after (62 ∷ rest) h.after (space_stops rest).2,
+-- the name of an end tag and the white space after it
+pub end_again : (e : WrittenEnd) → IsEnd e → end_in (e.name ++ e.after) ≡ Some e.name
+unfolding end_in
+end_again e h =
+    let whole : e.name ++ e.after ≡ e.name ++ (e.after ++ []) = ap (λ (t : List ℕ). e.name ++ t) (sym (append-nil e.after)) in
+    ap end_in whole
+    ∙ rw (
+      name_again e.name (e.after ++ []) h.name (stops_space e.after [] h.after tt),
+      past_again is_space e.after [] h.after tt,
     ) refl
 
-pub no_space_first : is_space 60 ≡ false
-unfolding is_space
-no_space_first = refl
+-- what a name begins with
+pub record NameFirst (name : List ℕ) : Type 0 where
+  pub first : ℕ
+  pub others : List ℕ
+  pub text : name ≡ first ∷ others
+  pub no_mark : eqb first 33 ≡ false
+  pub no_question : eqb first 63 ≡ false
+  pub no_slash : eqb first 47 ≡ false
+
+name_no_slash : (b : ℕ) → is_name_byte b ≡ true → eqb b 47 ≡ false
+unfolding is_name_byte
+name_no_slash b e = grind (arith, nat_tests)
+
+neither : (b c : Bool) → not (b || c) ≡ true → (b ≡ false) × (c ≡ false)
+neither true c e = absurd cc
+neither false true e = absurd cc
+neither false false e = (refl, refl)
+
+pub name_first : (name : List ℕ) → IsName name → NameFirst name
+name_first [] h = absurd (name_some [] h refl)
+name_first (b ∷ bs) h =
+    let first = neither (eqb b 33) (eqb b 63) h.begins in
+    record { first = b; others = bs; text = refl; no_mark = first.0; no_question = first.1; no_slash = name_no_slash b (All-head (λ x. is_name_byte x ≡ true) b bs h.of_name_bytes) }

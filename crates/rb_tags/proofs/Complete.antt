@@ -1,132 +1,86 @@
--- Files that are in the grammar are read, with the tags that they have there.
-use Rattle.std.proofs.Common.{◌≡◌, ◌≢◌, ℕ, zero, suc, ◌+◌, ◌-◌, ◌<◌, ◌≤◌, true, cond, eqb, ltb, List, [], ◌∷◌, ◌++◌, length, map, Result, Ok, refl, sym, ap, subst, ◌∙◌, append_assoc, arith, ◌||◌, ◌⊎◌, inl, inr}
-use Rattle.std.specs.List.{AllByRecursion, flat_map}
-use Rattle.std.specs.Str.{bytes_eq}
-use Rattle.std.proofs.lemmas.Slice.Eq.{bytes_eq-Decides}
-use Rattle.std.proofs.lemmas.Bool.{lt-ltb, and_from}
-use Rattle.std.proofs.lemmas.List.{length-append, append-nil}
-use Rattle.std.proofs.lemmas.List.Concat.{flat_map-cons}
-use Rattle.rb_tags.specs.declared.read.TagFault.{TagFault}
+-- What is written as the grammar says is read again.
+use Rattle.std.proofs.Common.{◌≡◌, ◌≢◌, ℕ, ◌+◌, ◌-◌, true, false, eqb, List, [], ◌∷◌, ◌++◌, length, None, Result, Ok, refl, sym, ap, subst, ◌∙◌, arith, ◌⊎◌, inl, inr}
+use Rattle.std.proofs.lemmas.Bool.Decides.{nat_tests}
+use Rattle.std.proofs.lemmas.List.{append-nil}
+use Rattle.std.proofs.lemmas.List.Elements.{All-head}
 use Rattle.rb_tags.specs.declared.tag.Tag.{Tag}
+use Rattle.rb_tags.specs.declared.read.TagFault.{TagFault}
 use Rattle.rb_tags.specs.Faults.{◌>>=◌}
-use Rattle.rb_tags.specs.Bytes.{is_space, past}
-use Rattle.rb_tags.specs.Seen.{Seen, nothing_seen, has_room, opened, closed, start_from, end_from, mark_at, finished}
-use Rattle.rb_tags.specs.Tags.{marks_at, tags_of}
-use Rattle.rb_tags.specs.Grammar.{IsSpace, attr_of, WrittenStart, IsStart, start_text, WrittenEnd, IsEnd, end_text, Mark, Start, End, IsMark, mark_text, open_after, MayStart, Nest, tags_from, Accepts}
-use Rattle.rb_tags.proofs.Moves.{some_text}
-use Rattle.rb_tags.proofs.Sound.{depth_after}
-use Rattle.rb_tags.proofs.Again.{Stops, past_again, start_again, start_cut, no_slash, end_again, end_cut, no_space_first}
+use Rattle.rb_tags.specs.Bytes.{is_space, after_front}
+use Rattle.rb_tags.specs.Seen.{OpenElement, Seen, read_text, finished_in, finished}
+use Rattle.rb_tags.specs.Tags.{order_mark, tags_of}
+use Rattle.rb_tags.specs.Grammar.{IsSpace, Part, Nest, Accepts}
+use Rattle.rb_tags.proofs.Results.{same_ok}
+use Rattle.rb_tags.proofs.SoFar.{after_text, step}
+use Rattle.rb_tags.specs.Refusals.{IsLead, count_in, Reached}
+use Rattle.rb_tags.proofs.Closes.{not_front}
+use Rattle.rb_tags.proofs.Arrives.{spaces_are_text, text_again, part_cut, seen_at}
+use Rattle.rb_tags.proofs.Parts.{texts}
 
-has_room_again : (seen : Seen) → MayStart (length seen.tags) seen.open_names → has_room seen ≡ true
-has_room_again seen h =
-    and_from _ _ (and_from _ _ (inside seen.open_names (length seen.tags) h.inside) (lt-ltb _ _ h.depth)) (lt-ltb _ _ h.room)
-  where
-    inside : (names : List (List ℕ)) (count : ℕ) → (count ≡ 0) ⊎ (names ≢ []) → (ltb 0 (length names) || eqb count 0) ≡ true
-    inside [] count (inl e) = rw e refl
-    inside [] count (inr some) = absurd (some refl)
-    inside (n ∷ names) count h = let some : ltb 0 (length (n ∷ names)) ≡ true = lt-ltb _ _ (omega arith) in rw some refl
-
-abbrev after_start : Seen → ℕ → WrittenStart → Seen
-after_start seen place s = record {
-  tags = seen.tags ++ record { name = s.name; place = place; depth = length seen.open_names + 1; attrs = map attr_of s.attrs } ∷ [];
-  open_names = open_after s seen.open_names;
-}
-
-start_mark_again : (seen : Seen) (place : ℕ) (s : WrittenStart) (rest : List ℕ) → IsStart s → MayStart (length seen.tags) seen.open_names → mark_at seen place (start_text s ++ rest) ≡ Ok (after_start seen place s, rest)
-unfolding mark_at start_from opened
-start_mark_again seen place s rest h may = ap (mark_at seen place) (start_cut s rest) ∙ rw (no_slash s rest h, start_again s rest h, has_room_again seen may) refl
-
-end_mark_again : (seen : Seen) (place : ℕ) (e : WrittenEnd) (names : List (List ℕ)) (rest : List ℕ) → IsEnd e → seen.open_names ≡ e.name ∷ names → mark_at seen place (end_text e ++ rest) ≡ Ok (record { tags = seen.tags; open_names = names }, rest)
-unfolding mark_at end_from closed
-end_mark_again seen place e names rest h open_is =
-    let same : bytes_eq e.name e.name ≡ true = (bytes_eq-Decides e.name e.name).1 refl in
-    ap (mark_at seen place) (end_cut e rest) ∙ rw (end_again e rest h, open_is, same) refl
-
-marks_stop : (marks : List Mark) → Stops is_space (flat_map mark_text marks)
-marks_stop [] = tt
-marks_stop (Start s space ∷ marks) = subst (λ (t : List ℕ). Stops is_space t) (sym (flat_map-cons mark_text (Start s space) marks)) no_space_first
-marks_stop (End e space ∷ marks) = subst (λ (t : List ℕ). Stops is_space t) (sym (flat_map-cons mark_text (End e space) marks)) no_space_first
-
-abbrev answer : ℕ → ℕ → Seen → List ℕ → Result (List Tag) TagFault
-answer size n seen bytes = marks_at size n seen bytes >>= finished
-
--- one mark of a file
-step : (size n : ℕ) (seen now : Seen) (place : ℕ) (text space : List ℕ) (marks : List Mark) → IsSpace space → 0 < length text → size ≡ place + length ((text ++ space) ++ flat_map mark_text marks)
-    → mark_at seen place (text ++ (space ++ flat_map mark_text marks)) ≡ Ok (now, space ++ flat_map mark_text marks)
-    → answer size (suc n) seen ((text ++ space) ++ flat_map mark_text marks) ≡ answer size n now (flat_map mark_text marks)
-unfolding marks_at
-step size n seen now place text space marks is_space' some size_is e = begins ((text ++ space) ++ flat_map mark_text marks) refl
-  where
-    begins : (bytes : List ℕ) → bytes ≡ (text ++ space) ++ flat_map mark_text marks → answer size (suc n) seen bytes ≡ answer size n now (flat_map mark_text marks)
-    begins [] is = absurd (omega (arith, ap length is, length-append (text ++ space) (flat_map mark_text marks), length-append text space))
-    begins (b ∷ bs) is =
-        let here : size - length (b ∷ bs) ≡ place = omega (arith, ap length is) in
-        let cut : b ∷ bs ≡ text ++ (space ++ flat_map mark_text marks) = is ∙ append_assoc text space (flat_map mark_text marks) in
-        let first : mark_at seen (size - length (b ∷ bs)) (b ∷ bs) ≡ Ok (now, space ++ flat_map mark_text marks) = ap (λ (p : ℕ). mark_at seen p (b ∷ bs)) here ∙ ap (mark_at seen place) cut ∙ e in
-        let goes : answer size (suc n) seen (b ∷ bs) ≡ answer size n now (past is_space (space ++ flat_map mark_text marks)) = rw first refl in
-        goes ∙ ap (answer size n now) (past_again is_space space (flat_map mark_text marks) is_space' (marks_stop marks))
-
-nest_end : (count : ℕ) (names : List (List ℕ)) (e : WrittenEnd) (space : List ℕ) (marks : List Mark) → Nest count names (End e space ∷ marks) → (others : List (List ℕ)) × (names ≡ e.name ∷ others) × Nest count others marks
-nest_end count [] e space marks h = absurd h
-nest_end count (innermost ∷ others) e space marks h = (others, ap (λ (n : List ℕ). n ∷ others) (sym h.0), h.1)
-
-finished_again : (seen : Seen) → 0 < length seen.tags → seen.open_names ≡ [] → finished seen ≡ Ok seen.tags
+finished_again : (seen : Seen) (size : ℕ) → seen.open_elements ≡ [] → seen.tags ≢ [] → finished seen size ≡ Ok seen.tags
 unfolding finished
-finished_again seen some none = rw (lt-ltb _ _ some, none) refl
-
-sizes : (size place : ℕ) (text others : List ℕ) → size ≡ place + length (text ++ others) → size ≡ (place + length text) + length others
-sizes size place text others e = omega (arith, length-append text others)
-
-marks_again : (size n : ℕ) (seen : Seen) (place : ℕ) (marks : List Mark) → AllByRecursion IsMark marks → Nest (length seen.tags) seen.open_names marks → size ≡ place + length (flat_map mark_text marks) → length marks ≤ n → answer size n seen (flat_map mark_text marks) ≡ Ok (seen.tags ++ tags_from place (length seen.open_names) marks)
-unfolding marks_at
-marks_again size n seen place [] all nest size_is enough = finished_again seen nest.0 nest.1 ∙ ap (λ (ts : List Tag). Ok ts) (sym (append-nil seen.tags))
-marks_again size zero seen place (m ∷ marks) all nest size_is enough = absurd (omega arith)
-marks_again size (suc n) seen place (Start s space ∷ marks) all nest size_is enough =
-    let others = flat_map mark_text marks in
-    let now = after_start seen place s in
-    let tag : Tag = record { name = s.name; place = place; depth = length seen.open_names + 1; attrs = map attr_of s.attrs } in
-    let after = place + length (start_text s ++ space) in
-    let cut = flat_map-cons mark_text (Start s space) marks in
-    let size' : size ≡ place + length ((start_text s ++ space) ++ others) = size_is ∙ ap (λ (t : List ℕ). place + length t) cut in
-    let one_more : length now.tags ≡ length seen.tags + 1 = length-append seen.tags (tag ∷ []) in
-    let nest' = subst (λ (count : ℕ). Nest count now.open_names marks) (sym one_more) nest.1 in
-    let rest = marks_again size n now after marks all.1 nest' (sizes size place (start_text s ++ space) others size') (omega arith) in
-    ap (answer size (suc n) seen) cut
-    ∙ step size n seen now place (start_text s) space marks all.0.1 (some_start s) size' (start_mark_again seen place s (space ++ others) all.0.0 nest.0)
-    ∙ rest
-    ∙ ap (λ (d : ℕ). Ok (now.tags ++ tags_from after d marks)) (depth_after s seen.open_names)
-    ∙ ap (λ (ts : List Tag). Ok ts) (append_assoc seen.tags (tag ∷ []) (tags_from after (cond s.closes (length seen.open_names) (length seen.open_names + 1)) marks))
+finished_again seen size none some = ap (λ (es : List OpenElement). finished_in es seen.tags size) none ∙ by_tags seen.tags some
   where
-    some_start : (s : WrittenStart) → 0 < length (start_text s)
-    some_start s = simp length-append (omega arith)
-marks_again size (suc n) seen place (End e space ∷ marks) all nest size_is enough =
-    let others = flat_map mark_text marks in
-    let inner = nest_end (length seen.tags) seen.open_names e space marks nest in
-    let now : Seen = record { tags = seen.tags; open_names = inner.0 } in
-    let after = place + length (end_text e ++ space) in
-    let cut = flat_map-cons mark_text (End e space) marks in
-    let size' : size ≡ place + length ((end_text e ++ space) ++ others) = size_is ∙ ap (λ (t : List ℕ). place + length t) cut in
-    let rest = marks_again size n now after marks all.1 inner.2 (sizes size place (end_text e ++ space) others size') (omega arith) in
-    let depth : length inner.0 ≡ length seen.open_names - 1 = omega (arith, ap length inner.1) in
-    ap (answer size (suc n) seen) cut
-    ∙ step size n seen now place (end_text e) space marks all.0.1 (some_end e) size' (end_mark_again seen place e inner.0 (space ++ others) all.0.0 inner.1)
-    ∙ rest
-    ∙ ap (λ (d : ℕ). Ok (seen.tags ++ tags_from after d marks)) depth
-  where
-    some_end : (e : WrittenEnd) → 0 < length (end_text e)
-    some_end e = simp length-append (omega arith)
+    by_tags : (tags : List Tag) → tags ≢ [] → finished_in [] tags size ≡ Ok tags
+    by_tags [] h = absurd (h refl)
+    by_tags (t ∷ tags) h = refl
 
-marks_fewer : (marks : List Mark) → length marks ≤ length (flat_map mark_text marks)
-marks_fewer [] = omega arith
-marks_fewer (m ∷ marks) = omega (arith, marks_fewer marks, some_text m, ap length (flat_map-cons mark_text m marks), length-append (mark_text m) (flat_map mark_text marks))
+-- no byte order mark
+abbrev OtherFirst : List ℕ → Type 0
+OtherFirst [] = Unit {0}
+OtherFirst (b ∷ bs) = eqb b 239 ≡ false
+
+no_order_mark : (bytes : List ℕ) → OtherFirst bytes → after_front order_mark bytes ≡ None
+unfolding after_front
+no_order_mark [] h = refl
+no_order_mark (b ∷ bs) h = rw h refl
+
+space_first : (b : ℕ) → is_space b ≡ true → eqb b 239 ≡ false
+unfolding is_space
+space_first b h = grind (arith, nat_tests)
+
+spaces_first : (space rest : List ℕ) → IsSpace space → OtherFirst rest → OtherFirst (space ++ rest)
+spaces_first [] rest all h = h
+spaces_first (b ∷ space) rest all h = space_first b (All-head (λ x. is_space x ≡ true) b space all)
+
+parts_first : (place count : ℕ) (parts : List Part) (last : List ℕ) → Nest place count [] parts → IsSpace last → OtherFirst (texts parts ++ last)
+parts_first place count [] last nest space = subst (λ (t : List ℕ). OtherFirst t) (append-nil last) (spaces_first last [] space tt)
+parts_first place count (p ∷ parts) last nest space =
+    let cut = part_cut p parts last in
+    elim nest.0 [
+      | inl some ↦ absurd (some refl)
+      | inr white ↦ subst (λ (t : List ℕ). OtherFirst t) (sym cut.1) (spaces_first p.before (60 ∷ (cut.0 ++ (texts parts ++ last))) white refl)
+    ]
+
+accepted_lead : (bytes lead : List ℕ) (parts : List Part) (last : List ℕ) → (lead ≡ []) ⊎ (lead ≡ order_mark) → Nest (length lead) 0 [] parts → IsSpace last → bytes ≡ lead ++ (texts parts ++ last) → IsLead bytes lead
+accepted_lead bytes lead parts last (inr mark) nest space text = inl mark
+accepted_lead bytes lead parts last (inl none) nest space text =
+    let whole : bytes ≡ texts parts ++ last = text ∙ ap (λ (t : List ℕ). t ++ (texts parts ++ last)) none in
+    let other = no_order_mark bytes (subst (λ (t : List ℕ). OtherFirst t) (sym whole) (parts_first (length lead) 0 parts last nest space)) in
+    inr (none, λ rest begins. not_front order_mark bytes other (record { rest = rest; text = begins }))
 
 pub complete : (bytes : List ℕ) (tags : List Tag) → Accepts bytes tags → tags_of bytes ≡ Ok tags
-unfolding tags_of
 complete bytes tags h =
-    let others = flat_map mark_text h.marks in
-    let size : length bytes ≡ length h.space + length others = ap length h.text ∙ length-append h.space others in
-    let left : past is_space bytes ≡ others = ap (past is_space) h.text ∙ past_again is_space h.space others h.leads (marks_stop h.marks) in
-    let enough : length h.marks ≤ length bytes = omega (arith, marks_fewer h.marks) in
-    ap (answer (length bytes) (length bytes) nothing_seen) left
-    ∙ marks_again (length bytes) (length bytes) nothing_seen (length h.space) h.marks h.are_marks h.nest size enough
-    ∙ ap (λ (ts : List Tag). Ok ts) (sym h.tags_are)
+    let r : Reached bytes (length h.lead + length (texts h.parts)) (count_in 0 h.parts) [] h.last = record {
+      utf8 = h.utf8;
+      lead = h.lead;
+      parts = h.parts;
+      lead_is = accepted_lead bytes h.lead h.parts h.last h.lead_is h.nest h.last_space h.text;
+      are_parts = h.are_parts;
+      nest = h.nest;
+      text = h.text;
+      place_is = refl;
+      count_is = refl;
+      elements_are = sym h.closed;
+    } in
+    let a = seen_at bytes (length h.lead + length (texts h.parts)) (count_in 0 h.parts) [] h.last r in
+    let at = length bytes - length h.last in
+    let text : read_text a.seen at h.last ≡ Ok [] = ap (read_text a.seen at) (sym (append-nil h.last)) ∙ text_again a.seen at h.last [] (spaces_are_text h.last h.last_space) tt (inr h.last_space) in
+    a.goes
+    ∙ step (length bytes) a.left a.seen h.last
+    ∙ ap (λ (t : Result (List ℕ) TagFault). t >>= λ rest. after_text (length bytes) a.left a.seen rest) text
+    ∙ finished_again a.seen (length bytes) a.elements_are (λ none. h.some (h.tags_are ∙ sym a.tags ∙ none))
+    ∙ ap (λ (ts : List Tag). Ok ts) (a.tags ∙ sym h.tags_are)
+
+pub only : (bytes : List ℕ) (tags others : List Tag) → Accepts bytes tags → Accepts bytes others → others ≡ tags
+only bytes tags others a b = same_ok others tags (sym (complete bytes others b) ∙ complete bytes tags a)

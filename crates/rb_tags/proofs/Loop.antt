@@ -1,15 +1,17 @@
 -- Attributes that were read one after another.
-use Rattle.std.proofs.Common.{◌≡◌, ℕ, zero, suc, ◌-◌, ◌<◌, ◌≤◌, true, false, List, [], ◌∷◌, ◌++◌, length, Result, Ok, Err, refl, sym, ap, ◌∙◌, ◌⊎◌, inl, inr, append_assoc, arith}
+use Rattle.std.proofs.Common.{◌≡◌, ℕ, zero, suc, ◌-◌, ◌<◌, ◌≤◌, true, false, List, [], ◌∷◌, ◌++◌, length, Option, Some, None, Ok, Err, refl, sym, ap, ◌∙◌, ◌⊎◌, inl, inr, append_assoc, arith}
 use Rattle.std.proofs.lemmas.List.{append-nil}
-use Rattle.rb_tags.specs.declared.read.TagFault.{TagFault}
+use Rattle.rb_tags.specs.declared.read.TagKind.{TagKind}
+use Rattle.rb_tags.specs.declared.read.TagKind.TheVariants.{BadMark, Memory}
 use Rattle.rb_tags.specs.declared.tag.Attr.{Attr}
-use Rattle.rb_tags.specs.Faults.{no_memory, ◌>>=◌}
+use Rattle.rb_tags.specs.Faults.{or_fault}
+use Rattle.rb_tags.specs.References.{◌>?=◌}
 use Rattle.rb_tags.specs.Bytes.{is_space, past}
 use Rattle.rb_tags.specs.Marks.{attr_at, attr_follows, attrs_at}
 use Rattle.rb_tags.proofs.Takes.{attr_shortens}
 
-abbrev with_front : List Attr → Result (List Attr × List ℕ) TagFault → Result (List Attr × List ℕ) TagFault
-with_front front read = read >>= λ x. Ok (front ++ x.0, x.1)
+abbrev with_front : List Attr → Option (List Attr × List ℕ) → Option (List Attr × List ℕ)
+with_front front read = read >?= λ x. Some (front ++ x.0, x.1)
 
 -- what was read of the bytes so far, and what reading the rest gives
 pub record AttrsSoFar (bytes : List ℕ) (front : List Attr) (rest : List ℕ) : Type 0 where
@@ -17,13 +19,13 @@ pub record AttrsSoFar (bytes : List ℕ) (front : List Attr) (rest : List ℕ) :
   pub enough : length rest ≤ left
   pub so_far : with_front front (attrs_at left rest) ≡ attrs_at (length bytes) bytes
 
-front_none : (r : Result (List Attr × List ℕ) TagFault) → with_front [] r ≡ r
-front_none (Ok x) = refl
-front_none (Err e) = refl
+front_none : (o : Option (List Attr × List ℕ)) → with_front [] o ≡ o
+front_none (Some x) = refl
+front_none None = refl
 
-front_more : (front : List Attr) (a : Attr) (r : Result (List Attr × List ℕ) TagFault) → with_front front (r >>= λ others. Ok (a ∷ others.0, others.1)) ≡ with_front (front ++ a ∷ []) r
-front_more front a (Ok x) = ap (λ (all : List Attr). Ok (all, x.1)) (sym (append_assoc front (a ∷ []) x.0))
-front_more front a (Err e) = refl
+front_more : (front : List Attr) (a : Attr) (o : Option (List Attr × List ℕ)) → with_front front (o >?= λ others. Some (a ∷ others.0, others.1)) ≡ with_front (front ++ a ∷ []) o
+front_more front a (Some x) = ap (λ (all : List Attr). Some (all, x.1)) (sym (append_assoc front (a ∷ []) x.0))
+front_more front a None = refl
 
 some_left : (bytes : List ℕ) → attr_follows bytes ≡ true → 0 < length bytes
 unfolding attr_follows past
@@ -33,11 +35,11 @@ some_left (b ∷ bs) h = omega arith
 pub attrs_begin : (bytes : List ℕ) → AttrsSoFar bytes [] bytes
 attrs_begin bytes = record { left = length bytes; enough = omega arith; so_far = front_none (attrs_at (length bytes) bytes) }
 
-step : (n : ℕ) (rest : List ℕ) → attr_follows rest ≡ true → attrs_at (suc n) rest ≡ (attr_at (past is_space rest) >>= λ first. attrs_at n first.1 >>= λ others. Ok (first.0 ∷ others.0, others.1))
+step : (n : ℕ) (rest : List ℕ) → attr_follows rest ≡ true → attrs_at (suc n) rest ≡ (attr_at (past is_space rest) >?= λ first. attrs_at n first.1 >?= λ others. Some (first.0 ∷ others.0, others.1))
 unfolding attrs_at
 step n rest h = rw h refl
 
-pub attrs_more : (bytes : List ℕ) (front : List Attr) (rest : List ℕ) (a : Attr) (after : List ℕ) → AttrsSoFar bytes front rest → attr_follows rest ≡ true → attr_at (past is_space rest) ≡ Ok (a, after) → AttrsSoFar bytes (front ++ a ∷ []) after
+pub attrs_more : (bytes : List ℕ) (front : List Attr) (rest : List ℕ) (a : Attr) (after : List ℕ) → AttrsSoFar bytes front rest → attr_follows rest ≡ true → attr_at (past is_space rest) ≡ Some (a, after) → AttrsSoFar bytes (front ++ a ∷ []) after
 attrs_more bytes front rest a after h follows e =
     let shorter = attr_shortens rest (a, after) follows e in
     let some = some_left rest follows in
@@ -48,26 +50,50 @@ attrs_more bytes front rest a after h follows e =
     ap (λ (m : ℕ). with_front front (attrs_at m rest)) is ∙ rw (step n rest follows, e) (front_more front a (attrs_at n after)) in
     record { left = n; enough = omega arith; so_far = sym one ∙ h.so_far }
 
-pub attrs_fail : (bytes : List ℕ) (front : List Attr) (rest : List ℕ) (f : TagFault) → AttrsSoFar bytes front rest → attr_follows rest ≡ true → attr_at (past is_space rest) ≡ Err f → attrs_at (length bytes) bytes ≡ Err f
-attrs_fail bytes front rest f h follows e =
+attrs_fail : (bytes : List ℕ) (front : List Attr) (rest : List ℕ) → AttrsSoFar bytes front rest → attr_follows rest ≡ true → attr_at (past is_space rest) ≡ None → attrs_at (length bytes) bytes ≡ None
+attrs_fail bytes front rest h follows e =
     let some = some_left rest follows in
     let enough = h.enough in
     let n = h.left - 1 in
     let is : h.left ≡ suc n = omega arith in
-    let one : with_front front (attrs_at h.left rest) ≡ Err f =
+    let one : with_front front (attrs_at h.left rest) ≡ None =
     ap (λ (m : ℕ). with_front front (attrs_at m rest)) is ∙ rw (step n rest follows, e) refl in
     sym h.so_far ∙ one
 
-no_step : (n : ℕ) (rest : List ℕ) → attr_follows rest ≡ false → attrs_at n rest ≡ Ok ([], rest)
+no_step : (n : ℕ) (rest : List ℕ) → attr_follows rest ≡ false → attrs_at n rest ≡ Some ([], rest)
 unfolding attrs_at
 no_step zero rest h = refl
 no_step (suc n) rest h = rw h refl
 
-pub attrs_end : (bytes : List ℕ) (front : List Attr) (rest : List ℕ) → AttrsSoFar bytes front rest → attr_follows rest ≡ false → attrs_at (length bytes) bytes ≡ Ok (front, rest)
+pub attrs_end : (bytes : List ℕ) (front : List Attr) (rest : List ℕ) → AttrsSoFar bytes front rest → attr_follows rest ≡ false → attrs_at (length bytes) bytes ≡ Some (front, rest)
 attrs_end bytes front rest h follows =
-    let one : with_front front (attrs_at h.left rest) ≡ Ok (front, rest) = rw (no_step h.left rest follows) (ap (λ (all : List Attr). Ok (all, rest)) (append-nil front)) in
+    let one : with_front front (attrs_at h.left rest) ≡ Some (front, rest) = rw (no_step h.left rest follows) (ap (λ (all : List Attr). Some (all, rest)) (append-nil front)) in
     sym h.so_far ∙ one
 
-pub attrs_refused : (bytes : List ℕ) (front : List Attr) (rest : List ℕ) (e : TagFault) → AttrsSoFar bytes front rest → attr_follows rest ≡ true → (e ≡ no_memory) ⊎ (attr_at (past is_space rest) ≡ Err e) → (e ≡ no_memory) ⊎ (attrs_at (length bytes) bytes ≡ Err e)
-attrs_refused bytes front rest e h follows (inl memory) = inl memory
-attrs_refused bytes front rest e h follows (inr fault) = inr (attrs_fail bytes front rest e h follows fault)
+-- what was read, or BadMark
+fault_some : {A : Type 0} (o : Option A) (x : A) → or_fault BadMark o ≡ Ok x → o ≡ Some x
+fault_some (Some y) x e = cc
+fault_some None x e = absurd cc
+
+record IsFault {A : Type 0} (o : Option A) (kind : TagKind) : Type 0 where
+  none : o ≡ None
+  is : BadMark ≡ kind
+
+fault_none : {A : Type 0} (o : Option A) (kind : TagKind) → or_fault BadMark o ≡ Err kind → IsFault o kind
+fault_none (Some y) kind e = absurd cc
+fault_none None kind e = record { none = refl; is = cc }
+
+pub attrs_go_on : (bytes : List ℕ) (front : List Attr) (rest : List ℕ) (a : Attr) (after : List ℕ) → AttrsSoFar bytes front rest → attr_follows rest ≡ true → or_fault BadMark (attr_at (past is_space rest)) ≡ Ok (a, after) → AttrsSoFar bytes (front ++ a ∷ []) after
+attrs_go_on bytes front rest a after h follows e = attrs_more bytes front rest a after h follows (fault_some (attr_at (past is_space rest)) (a, after) e)
+
+pub attrs_shorten : (rest : List ℕ) (a : Attr) (after : List ℕ) → attr_follows rest ≡ true → or_fault BadMark (attr_at (past is_space rest)) ≡ Ok (a, after) → length after < length rest
+attrs_shorten rest a after follows e = attr_shortens rest (a, after) follows (fault_some (attr_at (past is_space rest)) (a, after) e)
+
+pub attrs_refused : (bytes : List ℕ) (front : List Attr) (rest : List ℕ) (kind : TagKind) → AttrsSoFar bytes front rest → attr_follows rest ≡ true → (kind ≡ Memory) ⊎ (or_fault BadMark (attr_at (past is_space rest)) ≡ Err kind) → (kind ≡ Memory) ⊎ (or_fault BadMark (attrs_at (length bytes) bytes) ≡ Err kind)
+attrs_refused bytes front rest kind h follows (inl memory) = inl memory
+attrs_refused bytes front rest kind h follows (inr fault) =
+    let f = fault_none (attr_at (past is_space rest)) kind fault in
+    inr (rw (attrs_fail bytes front rest h follows f.none) (ap (λ (k : TagKind). Err k) f.is))
+
+pub attrs_done : (bytes : List ℕ) (front : List Attr) (rest : List ℕ) → AttrsSoFar bytes front rest → attr_follows rest ≡ false → or_fault BadMark (attrs_at (length bytes) bytes) ≡ Ok (front, rest)
+attrs_done bytes front rest h follows = rw (attrs_end bytes front rest h follows) refl

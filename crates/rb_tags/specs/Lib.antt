@@ -1,6 +1,12 @@
+pub mod BadMarks
 pub mod Bytes
 pub mod Faults
 pub mod Grammar
+pub mod Kept
 pub mod Marks
+pub mod References
+pub mod Refusals
 pub mod Seen
 pub mod Tags
+pub mod Values
+pub mod Views

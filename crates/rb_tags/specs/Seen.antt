@@ -1,70 +1,98 @@
--- What was read of a file so far, and how a mark changes it.
-use Rattle.std.specs.Prelude.{ℕ, ◌+◌, Bool, List, [], ◌∷◌, ◌++◌, length, reverse, ◌&&◌, ◌||◌, ◌==◌, nat_lt, Result, Ok, Err, if◌then◌else◌}
+-- What was read of a file so far, and how what follows changes it.
+use Rattle.std.specs.Prelude.{ℕ, ◌+◌, Bool, true, List, [], ◌∷◌, ◌++◌, length, not, ◌&&◌, ◌==◌, nat_lt, Result, Ok, Err, if◌then◌else◌}
+use Rattle.std.specs.List.{take_while, list_any, list_all}
 use Rattle.std.specs.Str.{bytes_eq}
 use Rattle.rb_tags.specs.declared.read.TagFault.{TagFault}
+use Rattle.rb_tags.specs.declared.read.TagKind.{TagKind}
+use Rattle.rb_tags.specs.declared.read.TagKind.TheVariants.{Unclosed, BadMark, Twice, Depth, TooMany, Mismatch}
+use Rattle.rb_tags.specs.declared.tag.Attr.{Attr}
 use Rattle.rb_tags.specs.declared.tag.Tag.{Tag}
 use Rattle.rb_tags.specs.declared.marks.StartTag.{StartTag}
-use Rattle.rb_tags.specs.declared.reader.Reader.{Reader}
-use Rattle.rb_tags.specs.Faults.{unbuilt, ◌>>=◌}
-use Rattle.rb_tags.specs.Bytes.{past_byte}
-use Rattle.rb_tags.specs.Marks.{start_at, end_at}
+pub use Rattle.rb_tags.specs.declared.reader.OpenElement.{OpenElement}
+use Rattle.rb_tags.specs.Faults.{fault_at, ◌>>=◌}
+use Rattle.rb_tags.specs.Bytes.{is_space, is_text_byte, past}
+use Rattle.rb_tags.specs.Marks.{Mark, mark_at}
 
--- the start tags so far, and the names of the open elements, the innermost first
+-- the start tags so far, and the open elements, the innermost first
 pub record Seen : Type 0 where
   pub tags : List Tag
-  pub open_names : List (List ℕ)
-
-abbrev pub seen_of : Reader → Seen
-seen_of reader = record { tags = reader.tags.items; open_names = reverse reader.open.items }
+  pub open_elements : List OpenElement
 
 abbrev pub nothing_seen : Seen
-nothing_seen = record { tags = []; open_names = [] }
+nothing_seen = record { tags = []; open_elements = [] }
 
--- whether one more start tag may stand: in an open element or first of all, at most 64 deep, and 262,144 in all
-abbrev pub has_room : Seen → Bool
-has_room seen = (nat_lt 0 (length seen.open_names) || length seen.tags == 0) && nat_lt (length seen.open_names) 64 && nat_lt (length seen.tags) 262144
+abbrev pub has_name : List ℕ → List Attr → Bool
+has_name name attrs = list_any (λ attr. bytes_eq attr.name name) attrs
+
+-- no two attributes have one name
+abbrev pub are_distinct : List Attr → Bool
+are_distinct [] = true
+are_distinct (attr ∷ attrs) = not (has_name attr.name attrs) && are_distinct attrs
 
 abbrev pub tag_of : StartTag → ℕ → ℕ → Tag
 tag_of start place depth = record { name = start.name; place = place; depth = depth; attrs = start.attrs }
 
-abbrev pub names_after : StartTag → List (List ℕ) → List (List ℕ)
-names_after start names = if start.closes then names else start.name ∷ names
+-- with the tag of a start tag whose < is at a place
+abbrev pub with_tag : Seen → ℕ → StartTag → Seen
+with_tag seen place start = record seen { tags = seen.tags ++ tag_of start place (length seen.open_elements + 1) ∷ [] }
+
+-- in the element of a start tag, if it does not close itself
+abbrev pub entered : Seen → ℕ → StartTag → Seen
+entered seen place start = if start.closes then seen else record seen { open_elements = record { name = start.name; place = place } ∷ seen.open_elements }
 
 -- after a start tag whose < is at a place
-unfoldable pub opened : Seen → ℕ → StartTag → Result Seen TagFault
-opened seen place start = if has_room seen then Ok (record { tags = seen.tags ++ tag_of start place (length seen.open_names + 1) ∷ []; open_names = names_after start seen.open_names }) else Err unbuilt
+unfoldable pub started : Seen → ℕ → StartTag → Result Seen TagKind
+started seen place start =
+    if length seen.open_elements == 0 && nat_lt 0 (length seen.tags) then Err BadMark else
+    if not (are_distinct start.attrs) then Err Twice else
+    if nat_lt 63 (length seen.open_elements) then Err Depth else
+    if nat_lt 262143 (length seen.tags) then Err TooMany else
+    Ok (entered (with_tag seen place start) place start)
 
-abbrev pub closed_names : List (List ℕ) → List ℕ → Result (List (List ℕ)) TagFault
-closed_names [] name = Err unbuilt
-closed_names (innermost ∷ names) name = if bytes_eq innermost name then Ok names else Err unbuilt
+abbrev pub ended_in : List OpenElement → List ℕ → Result (List OpenElement) TagKind
+ended_in [] name = Err Mismatch
+ended_in (innermost ∷ others) name = if bytes_eq innermost.name name then Ok others else Err Mismatch
 
 -- after an end tag
-unfoldable pub closed : Seen → List ℕ → Result Seen TagFault
-closed seen name = closed_names seen.open_names name >>= λ names. Ok (record { tags = seen.tags; open_names = names })
+unfoldable pub ended : Seen → List ℕ → Result Seen TagKind
+ended seen name = ended_in seen.open_elements name >>= λ others. Ok (record seen { open_elements = others })
 
--- after a start tag, from after its <
-unfoldable pub start_from : Seen → ℕ → List ℕ → Result (Seen × List ℕ) TagFault
-start_from seen place bytes = do
-  start ← start_at bytes
-  now ← opened seen place start.0
-  Ok (now, start.1)
+-- after a section of data, which stands only inside an element
+unfoldable pub with_data : Seen → Result Seen TagKind
+with_data seen = if length seen.open_elements == 0 then Err BadMark else Ok seen
 
--- after an end tag, from after its </
-unfoldable pub end_from : Seen → List ℕ → Result (Seen × List ℕ) TagFault
-end_from seen bytes = do
-  end ← end_at bytes
-  now ← closed seen end.0
-  Ok (now, end.1)
+-- after a mark whose < is at a place
+abbrev pub marked : Seen → ℕ → Mark → Result Seen TagKind
+marked seen place Mark.Passed = Ok seen
+marked seen place Mark.Data = with_data seen
+marked seen place (Mark.Start start) = started seen place start
+marked seen place (Mark.End name) = ended seen name
 
--- what follows a step, or what stands in its place where it failed
-abbrev pub if_read : {A B : Type 0} → Result A TagFault → (A → B) → B → B
-if_read (Ok x) f other = f x
-if_read (Err e) f other = other
+-- after the mark at the front, from after its <, which is at a place, or the kind of its fault
+unfoldable pub marked_at : Seen → ℕ → List ℕ → Result (Seen × List ℕ) TagKind
+marked_at seen place bytes = mark_at bytes >>= λ mark. marked seen place mark.0 >>= λ now. Ok (now, mark.1)
 
--- after the mark at the front
-unfoldable pub mark_at : Seen → ℕ → List ℕ → Result (Seen × List ℕ) TagFault
-mark_at seen place bytes = past_byte 60 bytes >>= λ after. if_read (past_byte 47 after) (end_from seen) (start_from seen place after)
+-- the kind of a fault, with its place
+abbrev pub placed : {A : Type 0} → ℕ → Result A TagKind → Result A TagFault
+placed place (Ok x) = Ok x
+placed place (Err kind) = Err (fault_at kind place)
 
--- the tags, where an element was read and each is closed
-unfoldable pub finished : Seen → Result (List Tag) TagFault
-finished seen = if nat_lt 0 (length seen.tags) && length seen.open_names == 0 then Ok seen.tags else Err unbuilt
+unfoldable pub read_mark : Seen → ℕ → List ℕ → Result (Seen × List ℕ) TagFault
+read_mark seen place bytes = placed place (marked_at seen place bytes)
+
+-- text before a mark: outside the outermost element it is white space
+unfoldable pub read_text : Seen → ℕ → List ℕ → Result (List ℕ) TagFault
+read_text seen place bytes =
+    let text = take_while is_text_byte bytes in
+    if length seen.open_elements == 0 && not (list_all is_space text)
+    then Err (fault_at BadMark (place + length (take_while is_space text)))
+    else Ok (past is_text_byte bytes)
+
+abbrev pub finished_in : List OpenElement → List Tag → ℕ → Result (List Tag) TagFault
+finished_in (innermost ∷ others) tags size = Err (fault_at Unclosed innermost.place)
+finished_in [] [] size = Err (fault_at Unclosed size)
+finished_in [] (tag ∷ tags) size = Ok (tag ∷ tags)
+
+-- the tags at the end of a file of a size, where an element was read and each is closed
+unfoldable pub finished : Seen → ℕ → Result (List Tag) TagFault
+finished seen size = finished_in seen.open_elements seen.tags size

@@ -1,13 +1,17 @@
-// Start tags and end tags, each from after its opening bytes.
-ghost use Rattle.std.specs.Prelude.{◌≡◌, length, IfOk};
-ghost use Rattle.std.specs.Str.{IsAscii};
-ghost use Rattle.rb_tags.specs.Faults.{Gives, Reads};
-ghost use Rattle.rb_tags.specs.Marks.{name_at, attr_at, attr_follows, attrs_at, tag_end_at, start_at, end_at, has_name, are_distinct};
+// Marks, each from after its `<`.
+ghost use Rattle.std.specs.Prelude.{◌≡◌, None, length};
+ghost use Rattle.std.specs.Option.{option_map, option_copied};
+ghost use Rattle.rb_tags.specs.declared.read.TagKind.TheVariants.{BadMark, Unclosed};
+ghost use Rattle.rb_tags.specs.Bytes.{quote_byte, after_first};
+ghost use Rattle.rb_tags.specs.Faults.{GivesKind, or_fault};
+ghost use Rattle.rb_tags.specs.Marks.{name_at, opening_at, quoted_at, attr_at, attr_follows, attrs_at, ending_of, start_in, end_in, tag_in, quote_after, ends_tag, closing_at, tag_at, mark_at};
+ghost use Rattle.rb_tags.specs.Views.{mark_of};
 
-use crate::bytes::{Class, past_byte};
-use crate::read::{TagFault, UNBUILT};
+use crate::bytes::{Class, Quote, past_first, past_front};
+use crate::read::TagKind;
 use crate::tag::{Attr, AttrList};
 use crate::text::Text;
+use crate::values::value;
 use std::alloc::Global;
 
 /// A start tag as it is read.
@@ -19,51 +23,90 @@ pub struct StartTag {
     pub closes: bool,
 }
 
-/// The name at the front, and the bytes after it.
-#[tactic(auto, using(crate::proofs::Steps::ascii_name), unfolding(crate::specs::Marks::name_at))]
-fn name(bytes: &[u8]) -> Result<(&[u8], &[u8]), TagFault>
-    ensures reads { Reads (λ x. (x.0.now, x.1.now)) result (name_at bytes.now) }
-    ensures ascii { IfOk result (λ x. IsAscii x.0.now) }
+/// A mark as it is read.
+#[derive(Drop)]
+pub enum ReadMark<'b> {
+    /// An instruction or a comment, which is passed over.
+    Passed,
+    /// A section of data.
+    Data,
+    /// A start tag.
+    Start(StartTag),
+    /// An end tag of this name.
+    End(&'b str),
+}
+
+/// The name at the front, and the text after it.
+#[tactic(auto, unfolding(crate::specs::Marks::name_at))]
+fn name(text: &str) -> Option<(&str, &str)>
+    ensures { option_map (λ x. (x.0.now, x.1.now)) result ≡ name_at text.now }
 {
-    let (name, rest) = Class::Name.run(bytes);
-    match name {
-        [] => Err(UNBUILT),
-        [first, ..] if *first == b'!' || *first == b'?' => Err(UNBUILT),
-        _ => Ok((name, rest)),
+    let (name, rest) = Class::Name.run(text);
+    match name.as_bytes() {
+        [] | [b'!' | b'?', ..] => None,
+        _ => Some((name, rest)),
     }
 }
 
-/// The attribute at the front, and the bytes after it.
-#[tactic(auto, using(crate::proofs::Steps::ascii_value), unfolding(crate::specs::Marks::attr_at))]
-fn attribute(alloc: Global, bytes: &[u8]) -> Result<(Attr, &[u8]), TagFault>
-    ensures { Gives (λ x. (x.0, x.1.now)) result (attr_at bytes.now) }
+/// The quote at the front, and the text after it.
+#[tactic(auto, unfolding(crate::specs::Marks::opening_at, crate::specs::Bytes::after_front, crate::specs::Bytes::is_quote))]
+fn opening(text: &str) -> Option<(Quote, &str)>
+    ensures { option_map (λ x. (quote_byte x.0, x.1.now)) result ≡ opening_at text.now }
 {
-    let (name, rest) = name(bytes)?;
-    let rest = past_byte(b'=', Class::Space.past(rest))?;
-    let rest = past_byte(b'"', Class::Space.past(rest))?;
-    let (value, rest) = Class::Value.run(rest);
-    let rest = past_byte(b'"', rest)?;
-    let name = Text::of_ascii(alloc, name)?;
-    let value = Text::of_ascii(alloc, value)?;
+    match past_front("\"", text) {
+        Some(rest) => Some((Quote::Double, rest)),
+        None => Some((Quote::Single, past_front("'", text)?)),
+    }
+}
+
+/// The value in quotes at the front, and the text after it.
+#[tactic(auto, unfolding(crate::specs::Marks::quoted_at))]
+fn quoted(alloc: Global, text: &str) -> Result<(Text, &str), TagKind>
+    ensures { GivesKind (λ x. (x.0, x.1.now)) result (or_fault BadMark (quoted_at text.now)) }
+{
+    let Some((quote, text)) = opening(text) else {
+        return Err(TagKind::BadMark);
+    };
+    let (inside, rest) = Class::Value(quote).run(text);
+    let Some(rest) = past_front(quote.as_str(), rest) else {
+        return Err(TagKind::BadMark);
+    };
+    let value = value(alloc, inside)?;
+    Ok((value, rest))
+}
+
+/// The attribute at the front, and the text after it.
+#[tactic(auto, unfolding(crate::specs::Marks::attr_at))]
+fn attribute(alloc: Global, text: &str) -> Result<(Attr, &str), TagKind>
+    ensures { GivesKind (λ x. (x.0, x.1.now)) result (or_fault BadMark (attr_at text.now)) }
+{
+    let Some((name, rest)) = name(text) else {
+        return Err(TagKind::BadMark);
+    };
+    let Some(rest) = past_front("=", Class::Space.past(rest)) else {
+        return Err(TagKind::BadMark);
+    };
+    let (value, rest) = quoted(alloc, Class::Space.past(rest))?;
+    let name = Text::copy(alloc, name)?;
     Ok((Attr { name, value }, rest))
 }
 
 /// Whether white space and the first byte of a name stand at the front.
 #[tactic(auto, unfolding(crate::specs::Marks::attr_follows))]
-fn attribute_follows(bytes: &[u8]) -> bool
-    ensures { result ≡ attr_follows bytes.now }
+fn attribute_follows(text: &str) -> bool
+    ensures { result ≡ attr_follows text.now }
 {
-    let (space, rest) = Class::Space.run(bytes);
+    let (space, rest) = Class::Space.run(text);
     let (name, _) = Class::Name.run(rest);
     !space.is_empty() && !name.is_empty()
 }
 
-/// The attributes at the front, each after white space, and the bytes after them.
-fn attributes(alloc: Global, bytes: &[u8]) -> Result<(AttrList, &[u8]), TagFault>
-    ensures { Gives (λ x. (x.0, x.1.now)) result (attrs_at (length bytes.now) bytes.now) }
+/// The attributes at the front, each after white space, and the text after them.
+fn attributes(alloc: Global, text: &str) -> Result<(AttrList, &str), TagKind>
+    ensures { GivesKind (λ x. (x.0, x.1.now)) result (or_fault BadMark (attrs_at (length text.now) text.now)) }
 {
     let mut attrs = Vec::new(alloc);
-    let mut rest = bytes;
+    let mut rest = text;
     while attribute_follows(rest) {
         let (attr, after) = attribute(alloc, Class::Space.past(rest))?;
         attrs.push(attr)?;
@@ -72,66 +115,136 @@ fn attributes(alloc: Global, bytes: &[u8]) -> Result<(AttrList, &[u8]), TagFault
     Ok((AttrList { attrs }, rest))
 }
 
-/// Whether an attribute has the name.
-fn has_name(attrs: &[Attr], name: &str) -> bool
-    ensures { result ≡ has_name name.now attrs.now }
+/// Whether a tag closes itself, from what stands in it behind its attributes.
+#[tactic(auto, unfolding(crate::specs::Marks::ending_of))]
+fn ending(text: &str) -> Option<bool>
+    ensures { result ≡ ending_of text.now }
 {
-    attrs.iter().any(|attr| attr.name.as_str() == name)
-}
-
-/// Whether no two attributes have one name.
-fn are_distinct(attrs: &[Attr]) -> bool
-    ensures { result ≡ are_distinct attrs.now }
-{
-    let mut rest = attrs;
-    while let [first, others @ ..] = rest {
-        if has_name(others, first.name.as_str()) {
-            return false;
-        }
-        rest = others;
-    }
-    true
-}
-
-/// The end of a start tag: whether it closes itself, and the bytes after it.
-#[tactic(auto, unfolding(crate::specs::Marks::tag_end_at))]
-fn tag_end(bytes: &[u8]) -> Result<(bool, &[u8]), TagFault>
-    ensures { Reads (λ x. (x.0, x.1.now)) result (tag_end_at bytes.now) }
-{
-    match bytes {
-        [b'/', rest @ ..] => Ok((true, past_byte(b'>', rest)?)),
-        _ => Ok((false, past_byte(b'>', bytes)?)),
+    match text.as_bytes() {
+        [] => Some(false),
+        [b'/'] => Some(true),
+        _ => None,
     }
 }
 
-/// The start tag from after its `<`, and the bytes after it.
-#[tactic(auto, unfolding(crate::specs::Marks::start_at))]
-pub fn start_tag(alloc: Global, bytes: &[u8]) -> Result<(StartTag, &[u8]), TagFault>
-    ensures { Gives (λ x. (x.0, x.1.now)) result (start_at bytes.now) }
+/// The start tag, from all that stands between its `<` and its `>`.
+#[tactic(auto, unfolding(crate::specs::Marks::start_in))]
+fn start_in(alloc: Global, inside: &str) -> Result<StartTag, TagKind>
+    ensures { GivesKind (λ x. x) result (or_fault BadMark (start_in inside.now)) }
 {
-    let (name, rest) = name(bytes)?;
+    let Some((name, rest)) = name(inside) else {
+        return Err(TagKind::BadMark);
+    };
     let (attrs, rest) = attributes(alloc, rest)?;
-    let (closes, rest) = tag_end(Class::Space.past(rest))?;
-    if !are_distinct(attrs.as_slice()) {
-        return Err(UNBUILT);
-    }
-    let name = Text::of_ascii(alloc, name)?;
-    Ok((
-        StartTag {
-            name,
-            attrs,
-            closes,
-        },
-        rest,
-    ))
+    let Some(closes) = ending(Class::Space.past(rest)) else {
+        return Err(TagKind::BadMark);
+    };
+    let name = Text::copy(alloc, name)?;
+    Ok(StartTag {
+        name,
+        attrs,
+        closes,
+    })
 }
 
-/// The name of the end tag from after its `</`, and the bytes after the tag.
-#[tactic(auto, unfolding(crate::specs::Marks::end_at))]
-pub fn end_tag(bytes: &[u8]) -> Result<(&[u8], &[u8]), TagFault>
-    ensures { Reads (λ x. (x.0.now, x.1.now)) result (end_at bytes.now) }
+/// The name of the end tag, from all that stands between its `</` and its `>`.
+#[tactic(auto, unfolding(crate::specs::Marks::end_in))]
+fn end_in(inside: &str) -> Option<&str>
+    ensures { option_copied result ≡ end_in inside.now }
 {
-    let (name, rest) = name(bytes)?;
-    let rest = past_byte(b'>', Class::Space.past(rest))?;
-    Ok((name, rest))
+    let (name, rest) = name(inside)?;
+    if Class::Space.past(rest).is_empty() {
+        Some(name)
+    } else {
+        None
+    }
+}
+
+/// The tag, from all that stands between its `<` and its `>`.
+#[tactic(auto, unfolding(crate::specs::Marks::tag_in))]
+fn tag_in(alloc: Global, inside: &str) -> Result<ReadMark<'_>, TagKind>
+    ensures { GivesKind mark_of result (or_fault BadMark (tag_in inside.now)) }
+{
+    let Some(rest) = past_front("/", inside) else {
+        return Ok(ReadMark::Start(start_in(alloc, inside)?));
+    };
+    match end_in(rest) {
+        Some(name) => Ok(ReadMark::End(name)),
+        None => Err(TagKind::BadMark),
+    }
+}
+
+/// The kind of the quoted part that a byte stands in, from that of the byte before it.
+#[tactic(auto, unfolding(crate::specs::Bytes::is_quote))]
+fn quote_after(quote: Option<u8>, byte: u8) -> Option<u8>
+    ensures { result ≡ quote_after quote byte }
+{
+    match quote {
+        None if byte == b'"' || byte == b'\'' => Some(byte),
+        None => None,
+        Some(open) if byte == open => None,
+        Some(open) => Some(open),
+    }
+}
+
+/// Whether a byte is a `>` outside quoted parts.
+fn ends_tag(quote: Option<u8>, byte: u8) -> bool
+    ensures { result ≡ ends_tag quote byte }
+{
+    quote.is_none() && byte == b'>'
+}
+
+/// How many bytes stand before the first `>` outside quoted parts.
+fn closing(text: &str) -> Option<usize>
+    ensures { result ≡ closing_at None text.now }
+{
+    let bytes = text.as_bytes();
+    let mut quote = None;
+    for (place, byte) in bytes.iter().enumerate() {
+        if ends_tag(quote, *byte) {
+            return Some(place);
+        }
+        quote = quote_after(quote, *byte);
+    }
+    None
+}
+
+/// The tag at the front, from after its `<`, and the text after it.
+#[tactic(auto, unfolding(crate::specs::Marks::tag_at))]
+fn tag<'b>(alloc: Global, text: &'b str) -> Result<(ReadMark<'b>, &'b str), TagKind>
+    ensures { GivesKind (λ x. (mark_of x.0, x.1.now)) result (tag_at text.now) }
+{
+    let Some(end) = closing(text) else {
+        return Err(TagKind::Unclosed);
+    };
+    let mark = tag_in(alloc, &text[..end])?;
+    Ok((mark, &text[end + 1..]))
+}
+
+/// The text after the closing text of a mark.
+fn past_closing<'b>(closing: &str, text: &'b str) -> Result<&'b str, TagKind>
+    ensures { GivesKind (λ rest. rest.now) result (or_fault Unclosed (after_first closing.now text.now)) }
+{
+    past_first(closing, text).ok_or(TagKind::Unclosed)
+}
+
+/// The mark at the front, from after its `<`, and the text after it. A document type is `Doctype`, a mark whose closing bytes do not come
+/// `Unclosed`, and a tag that does not fit `BadMark`.
+#[tactic(auto, unfolding(crate::specs::Marks::mark_at))]
+pub fn mark<'b>(alloc: Global, text: &'b str) -> Result<(ReadMark<'b>, &'b str), TagKind>
+    ensures { GivesKind (λ x. (mark_of x.0, x.1.now)) result (mark_at text.now) }
+{
+    if let Some(rest) = past_front("?", text) {
+        return Ok((ReadMark::Passed, past_closing("?>", rest)?));
+    }
+    if let Some(rest) = past_front("!--", text) {
+        return Ok((ReadMark::Passed, past_closing("-->", rest)?));
+    }
+    if let Some(rest) = past_front("![CDATA[", text) {
+        return Ok((ReadMark::Data, past_closing("]]>", rest)?));
+    }
+    if past_front("!DOCTYPE", text).is_some() {
+        return Err(TagKind::Doctype);
+    }
+    tag(alloc, text)
 }

@@ -1,32 +1,43 @@
 ghost use Rattle.std.specs.Prelude.{◌≡◌, IfOk, IfErr, Ok, Err, ◌⊎◌};
-ghost use Rattle.rb_tags.specs.Tags.{tags_of, no_memory};
+ghost use Rattle.rb_tags.specs.Faults.{Gives};
+ghost use Rattle.rb_tags.specs.Tags.{tags_of, tags_of_text, no_memory};
+ghost use Rattle.rb_tags.specs.declared.read.TagKind.TheVariants.{Memory};
 
-use crate::bytes::Class;
+use crate::bytes::past_front;
 use crate::reader::Reader;
 use crate::tag::Tags;
+use simdutf8::compat::from_utf8;
 use std::alloc::{AllocError, AllocFailed, Global};
 
 /// What is wrong with a file of tags.
 #[derive(Clone, Copy, Debug, PartialEq, Eq)]
 pub enum TagKind {
-    /// The file is not in the subset that is read.
-    Unbuilt,
+    /// The file is not UTF-8: at the first byte that fits no sequence.
+    NotUtf8,
+    /// A mark's closing bytes do not come, at its `<`; or an element is not closed, at the `<` of the innermost one; or there is no element, at the file's length.
+    Unclosed,
+    /// An end tag is not that of the innermost open element, at its `<`.
+    Mismatch,
+    /// A document type, at its `<`.
+    Doctype,
+    /// A start tag deeper than 64, at its `<`. The outermost has depth 1.
+    Depth,
+    /// Two attributes of one tag have one name, at the tag's `<`.
+    Twice,
+    /// A mark does not fit or begins a second outermost element, at its `<`; or text other than white space outside the outermost element, at its first byte.
+    BadMark,
+    /// The start tag numbered 262,145, at its `<`.
+    TooMany,
     /// For want of memory.
     Memory,
 }
 
-/// What is wrong, and where: the place in bytes from 0.
+/// What is wrong, and where: the place in bytes from 0, which is 0 for want of memory.
 #[derive(Clone, Copy, Debug, PartialEq, Eq)]
 pub struct TagFault {
     pub kind: TagKind,
     pub at: u64,
 }
-
-/// The fault of a file that is not in the subset that is read.
-pub(crate) const UNBUILT: TagFault = TagFault {
-    kind: TagKind::Unbuilt,
-    at: 0,
-};
 
 /// The fault for want of memory.
 pub(crate) const NO_MEMORY: TagFault = TagFault {
@@ -34,34 +45,48 @@ pub(crate) const NO_MEMORY: TagFault = TagFault {
     at: 0,
 };
 
-impl From<AllocError> for TagFault {
-    ghost from_gives = { λ _ e. e ≡ no_memory };
+impl From<AllocError> for TagKind {
+    ghost from_gives = { λ _ e. e ≡ Memory };
 
-    fn from(_e: AllocError) -> TagFault {
-        NO_MEMORY
+    fn from(_e: AllocError) -> TagKind {
+        TagKind::Memory
     }
 }
 
-impl<T: Drop> From<AllocFailed<T>> for TagFault {
-    ghost from_gives = { λ _ e. e ≡ no_memory };
+impl<T: Drop> From<AllocFailed<T>> for TagKind {
+    ghost from_gives = { λ _ e. e ≡ Memory };
 
-    fn from(_e: AllocFailed<T>) -> TagFault {
-        NO_MEMORY
+    fn from(_e: AllocFailed<T>) -> TagKind {
+        TagKind::Memory
     }
 }
 
-/// The start tags of a file.
-#[tactic(auto, unfolding(crate::specs::Tags::tags_of))]
+/// The start tags of a file, or its first fault.
 pub fn read_tags(alloc: Global, bytes: &[u8]) -> Result<Tags, TagFault>
     ensures ok { IfOk result (λ tags. tags_of bytes.now ≡ Ok tags) }
     ensures err { IfErr result (λ fault. (fault ≡ no_memory) ⊎ (tags_of bytes.now ≡ Err fault)) }
 {
-    let mut reader = Reader::new(alloc);
-    let mut rest = Class::Space.past(bytes);
-    while !rest.is_empty() {
-        let place = (bytes.len() - rest.len()) as u64;
-        let after = reader.mark(alloc, place, rest)?;
-        rest = Class::Space.past(after);
+    match from_utf8(bytes) {
+        Ok(text) => read_text(alloc, text),
+        Err(e) => Err(TagFault {
+            kind: TagKind::NotUtf8,
+            at: e.valid_up_to() as u64,
+        }),
     }
-    reader.finish()
+}
+
+/// The start tags of a text, or its first fault.
+fn read_text(alloc: Global, text: &str) -> Result<Tags, TagFault>
+    ensures { Gives (λ tags. tags) result (tags_of_text text.now) }
+{
+    let size = text.len();
+    let mut reader = Reader::new(alloc);
+    let mut left = past_front("\u{feff}", text).unwrap_or(text);
+    loop {
+        let rest = reader.text((size - left.len()) as u64, left)?;
+        let Some(behind) = past_front("<", rest) else {
+            return reader.finish(size as u64);
+        };
+        left = reader.mark(alloc, (size - rest.len()) as u64, behind)?;
+    }
 }

@@ -1,10 +1,12 @@
-ghost use Rattle.std.specs.Prelude.{◌≡◌};
-ghost use Rattle.rb_tags.specs.Faults.{Gives};
-ghost use Rattle.rb_tags.specs.Seen.{seen_of, nothing_seen, opened, closed, start_from, end_from, mark_at, finished};
+ghost use Rattle.std.specs.Prelude.{◌≡◌, ◌+◌, ◌^◌, ◌<◌, ◌≤◌, length, All};
+ghost use Rattle.rb_tags.specs.Faults.{Gives, GivesKind, placed_kind};
+ghost use Rattle.rb_tags.specs.Seen.{nothing_seen, with_tag, started, ended, with_data, marked, marked_at, read_mark, read_text, finished};
+ghost use Rattle.rb_tags.specs.Kept.{IsReadTag, HasDistinctNames};
 
-use crate::bytes::past_byte;
-use crate::marks::{StartTag, end_tag, start_tag};
-use crate::read::{TagFault, UNBUILT};
+use crate::bytes::Class;
+use crate::marks::{ReadMark, StartTag, mark};
+use crate::names::are_distinct;
+use crate::read::{NO_MEMORY, TagFault, TagKind};
 use crate::tag::{Tag, Tags};
 use crate::text::Text;
 use std::alloc::Global;
@@ -15,14 +17,35 @@ const DEPTH_LIMIT: usize = 64;
 /// The greatest number of start tags.
 const TAG_LIMIT: usize = 262_144;
 
-/// What was read so far: the start tags, and the names of the open elements, the innermost last.
+/// An element that is open: its name, and the place of the `<` of its start tag.
+#[derive(Drop)]
+pub struct OpenElement {
+    pub name: Text,
+    pub place: u64,
+}
+
+/// What was read so far: the start tags, and the open elements, the innermost last.
 #[derive(Drop)]
 pub struct Reader {
     tags: Vec<Tag>,
-    open: Vec<Text>,
+    open: Vec<OpenElement>,
+    ghost few: { length tags.items ≤ 262144 },
+    ghost each: { All IsReadTag tags.items },
+}
+
+/// A fault of a kind at a place. Want of memory has none.
+fn fault(kind: TagKind, place: u64) -> TagFault
+    ensures { result ≡ placed_kind kind place }
+{
+    match kind {
+        TagKind::Memory => NO_MEMORY,
+        _ => TagFault { kind, at: place },
+    }
 }
 
 impl Reader {
+    ghost use Rattle.rb_tags.specs.Views.{mark_of, seen_of};
+
     /// Before the first mark.
     pub fn new(alloc: Global) -> Self
         ensures { seen_of result ≡ nothing_seen }
@@ -34,92 +57,146 @@ impl Reader {
     }
 
     /// Takes a start tag whose `<` is at a place.
-    #[tactic(auto, unfolding(crate::specs::Seen::opened))]
-    fn open_tag(&mut self, alloc: Global, start: StartTag, place: u64) -> Result<(), TagFault>
-        ensures { Gives (λ _. seen_of self.new) result (opened (seen_of self.old) place start) }
+    #[tactic(auto, using(crate::proofs::Distinct::distinct_holds), unfolding(crate::specs::Seen::started))]
+    fn start(&mut self, alloc: Global, place: u64, start: StartTag) -> Result<(), TagKind>
+        ensures { GivesKind (λ _. seen_of self.new) result (started (seen_of self.old) place start) }
     {
         let depth = self.open.len();
-        let is_second_root = depth == 0 && !self.tags.is_empty();
-        if is_second_root || depth >= DEPTH_LIMIT || self.tags.len() >= TAG_LIMIT {
-            return Err(UNBUILT);
+        if depth == 0 && !self.tags.is_empty() {
+            return Err(TagKind::BadMark);
         }
-        let StartTag {
-            name,
-            attrs,
-            closes,
-        } = start;
-        if !closes {
-            self.open.push(Text::copy(alloc, name.as_str())?)?;
+        if !are_distinct(alloc, start.attrs.as_slice())? {
+            return Err(TagKind::Twice);
         }
+        if depth >= DEPTH_LIMIT {
+            return Err(TagKind::Depth);
+        }
+        if self.tags.len() >= TAG_LIMIT {
+            return Err(TagKind::TooMany);
+        }
+        if start.closes {
+            return self.add(place, start);
+        }
+        let name = Text::copy(alloc, start.name.as_str())?;
+        self.add(place, start)?;
+        self.open.push(OpenElement { name, place })?;
+        Ok(())
+    }
+
+    /// Adds the tag of a start tag whose `<` is at a place.
+    fn add(&mut self, place: u64, start: StartTag) -> Result<(), TagKind>
+        requires shallow { length (seen_of self.old).open_elements < 64 }
+        requires room { length (seen_of self.old).tags < 262144 }
+        requires distinct { HasDistinctNames start.attrs }
+        ensures { GivesKind (λ _. seen_of self.new) result (Ok (with_tag (seen_of self.old) place start)) }
+    {
         self.tags.push(Tag {
-            name,
+            name: start.name,
             place,
-            depth: depth as u32 + 1,
-            attrs,
+            depth: self.open.len() as u32 + 1,
+            attrs: start.attrs,
         })?;
         Ok(())
     }
 
     /// Takes an end tag.
-    #[tactic(auto, unfolding(crate::specs::Seen::closed))]
-    fn close_tag(&mut self, name: &[u8]) -> Result<(), TagFault>
-        ensures { Gives (λ _. seen_of self.new) result (closed (seen_of self.old) name.now) }
+    #[tactic(auto, unfolding(crate::specs::Seen::ended))]
+    fn end(&mut self, name: &str) -> Result<(), TagKind>
+        ensures { GivesKind (λ _. seen_of self.new) result (ended (seen_of self.old) name.now) }
     {
         match self.open.pop() {
-            Some(innermost) if innermost.as_str().as_bytes() == name => Ok(()),
-            _ => Err(UNBUILT),
+            Some(innermost) if innermost.name.as_str() == name => Ok(()),
+            _ => Err(TagKind::Mismatch),
         }
     }
 
-    /// Takes the start tag at the front, from after its `<`, and gives the bytes after it.
-    #[tactic(auto, unfolding(crate::specs::Seen::start_from))]
-    fn start_mark<'b>(
+    /// Takes a section of data, which stands only inside an element.
+    #[tactic(auto, unfolding(crate::specs::Seen::with_data))]
+    fn data(&self) -> Result<(), TagKind>
+        ensures { GivesKind (λ _. seen_of self.now) result (with_data (seen_of self.now)) }
+    {
+        if self.open.is_empty() {
+            return Err(TagKind::BadMark);
+        }
+        Ok(())
+    }
+
+    /// Takes a mark whose `<` is at a place.
+    fn take(&mut self, alloc: Global, place: u64, read: ReadMark<'_>) -> Result<(), TagKind>
+        ensures { GivesKind (λ _. seen_of self.new) result (marked (seen_of self.old) place (mark_of read.entry)) }
+    {
+        match read {
+            ReadMark::Passed => Ok(()),
+            ReadMark::Data => self.data(),
+            ReadMark::Start(start) => self.start(alloc, place, start),
+            ReadMark::End(name) => self.end(name),
+        }
+    }
+
+    /// Takes the mark at the front, from after its `<`, which is at a place, and gives the text after it, or the kind of its fault.
+    #[tactic(auto, unfolding(crate::specs::Seen::marked_at))]
+    fn take_mark<'b>(
         &mut self,
         alloc: Global,
         place: u64,
-        bytes: &'b [u8],
-    ) -> Result<&'b [u8], TagFault>
-        ensures { Gives (λ rest. (seen_of self.new, rest.now)) result (start_from (seen_of self.old) place bytes.now) }
+        text: &'b str,
+    ) -> Result<&'b str, TagKind>
+        ensures { GivesKind (λ rest. (seen_of self.new, rest.now)) result (marked_at (seen_of self.old) place text.now) }
     {
-        let (start, rest) = start_tag(alloc, bytes)?;
-        self.open_tag(alloc, start, place)?;
+        let (read, rest) = mark(alloc, text)?;
+        self.take(alloc, place, read)?;
         Ok(rest)
     }
 
-    /// Takes the end tag at the front, from after its `</`, and gives the bytes after it.
-    #[tactic(auto, unfolding(crate::specs::Seen::end_from))]
-    fn end_mark<'b>(&mut self, bytes: &'b [u8]) -> Result<&'b [u8], TagFault>
-        ensures { Gives (λ rest. (seen_of self.new, rest.now)) result (end_from (seen_of self.old) bytes.now) }
-    {
-        let (name, rest) = end_tag(bytes)?;
-        self.close_tag(name)?;
-        Ok(rest)
-    }
-
-    /// Takes the mark at the front, whose `<` is at a place, and gives the bytes after it.
-    #[tactic(auto, unfolding(crate::specs::Seen::mark_at))]
+    /// Takes the mark at the front, from after its `<`, which is at a place, and gives the text after it.
+    #[tactic(auto, unfolding(crate::specs::Seen::read_mark))]
     pub fn mark<'b>(
         &mut self,
         alloc: Global,
         place: u64,
-        bytes: &'b [u8],
-    ) -> Result<&'b [u8], TagFault>
-        ensures { Gives (λ rest. (seen_of self.new, rest.now)) result (mark_at (seen_of self.old) place bytes.now) }
+        text: &'b str,
+    ) -> Result<&'b str, TagFault>
+        ensures { Gives (λ rest. (seen_of self.new, rest.now)) result (read_mark (seen_of self.old) place text.now) }
     {
-        let after = past_byte(b'<', bytes)?;
-        match past_byte(b'/', after) {
-            Ok(name) => self.end_mark(name),
-            Err(_) => self.start_mark(alloc, place, after),
+        match self.take_mark(alloc, place, text) {
+            Ok(rest) => Ok(rest),
+            Err(kind) => Err(fault(kind, place)),
         }
     }
 
-    /// The tags, at the end of the file.
-    #[tactic(auto, unfolding(crate::specs::Seen::finished))]
-    pub fn finish(self) -> Result<Tags, TagFault>
-        ensures { Gives (λ tags. tags) result (finished (seen_of self)) }
+    /// Passes over the text before the next mark, from a place, and gives what is left.
+    #[tactic(auto, unfolding(crate::specs::Seen::read_text))]
+    pub fn text<'b>(&self, place: u64, text: &'b str) -> Result<&'b str, TagFault>
+        requires { place + length text.now < 2 ^ 64 }
+        ensures { Gives (λ rest. rest.now) result (read_text (seen_of self.now) place text.now) }
     {
-        if self.tags.is_empty() || !self.open.is_empty() {
-            return Err(UNBUILT);
+        let (before, rest) = Class::Text.run(text);
+        let (space, other) = Class::Space.run(before);
+        if self.open.is_empty() && !other.is_empty() {
+            return Err(TagFault {
+                kind: TagKind::BadMark,
+                at: place + space.len() as u64,
+            });
+        }
+        Ok(rest)
+    }
+
+    /// The tags, at the end of a file of a size.
+    #[tactic(auto, unfolding(crate::specs::Seen::finished))]
+    pub fn finish(self, size: u64) -> Result<Tags, TagFault>
+        ensures { Gives (λ tags. tags) result (finished (seen_of self) size) }
+    {
+        if let Some(innermost) = self.open.last() {
+            return Err(TagFault {
+                kind: TagKind::Unclosed,
+                at: innermost.place,
+            });
+        }
+        if self.tags.is_empty() {
+            return Err(TagFault {
+                kind: TagKind::Unclosed,
+                at: size,
+            });
         }
         Ok(Tags { tags: self.tags })
     }

@@ -43,7 +43,7 @@ pub struct Tag {
     pub attrs: AttrList,
 }
 
-/// The start tags of a file, in file order.
+/// The start tags of a file, in file order: at least one and at most 262,144, each of a depth from 1 to 64 and with attributes of different names.
 #[derive(Debug, Drop)]
 pub struct Tags {
     pub(crate) tags: Vec<Tag>,
@@ -52,16 +52,22 @@ pub struct Tags {
 impl Model for Tags {
     ghost use Rattle.std.specs.Prelude.{List};
     ghost use Rattle.rb_tags.specs.declared.tag.Tag.{Tag};
+    ghost use Rattle.rb_tags.specs.Kept.{IsTagList};
 
     ghost Value = { List Tag };
 
     ghost view = { λ l. l.tags.items };
+
+    ghost invariant = { λ l. IsTagList l.tags.items };
 }
 
 impl Tags {
+    ghost use Rattle.rb_tags.specs.Kept.{IsTagList};
+
     /// The tags.
     pub fn as_slice(&self) -> &[Tag]
-        ensures { result.now ≡ self.now }
+        ensures tags { result.now ≡ self.now }
+        ensures kept { IsTagList self.now }
     {
         self.tags.as_slice()
     }

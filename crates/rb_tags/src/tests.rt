@@ -33,83 +33,298 @@ fn lift(rt: HostRuntime) -> Result<(), Fail> {
     Ok(())
 }
 
-#[test]
-fn white_space(rt: HostRuntime) -> Result<(), Fail> {
-    let bytes = b"\t\r\n <a\tb\n=\r\" x>/= \"\n >\n<c / >".as_slice();
-    assert!(rt; is_refused(rt.alloc(), bytes));
-    let bytes = b"\t\r\n <a\tb\n=\r\" x>/= \"\n >\n<c />\n</a \t>\r\n".as_slice();
-    let tags = read_tags(rt.alloc(), bytes)
-        .ok()
-        .ok_or("white space may stand here")?;
-    assert_eq!(rt; tags.as_slice().len(), 2);
-    let first = tags.as_slice().get(0).ok_or("the first tag")?;
-    assert_eq!(rt; first.place, 4);
-    let attr = first.attrs.as_slice().get(0).ok_or("its attribute")?;
-    assert_eq!(rt; attr.value.as_str(), " x>/= ");
-    Ok(())
-}
-
-fn is_refused(alloc: Global, bytes: &[u8]) -> bool {
-    matches!(
-        read_tags(alloc, bytes),
-        Err(TagFault {
-            kind: TagKind::Unbuilt,
-            at: 0
-        })
-    )
-}
-
-const REFUSED: [&[u8]; 20] = [
-    b"",
-    b" \n",
-    b"<a>",
-    b"<a",
-    b"<a b=\"",
-    b"<a></b>",
-    b"</a>",
-    b"<a/></a>",
-    b"<a/><b/>",
-    b"<a>text</a>",
-    b"text<a/>",
-    b"<a b=\"1\" b=\"2\"/>",
-    b"<a b=\"1\"c=\"2\"/>",
-    b"<!-- x --><a/>",
-    b"<a b=\"&amp;\"/>",
-    b"<a b='1'/>",
-    b"<a b=\"\x7f\"/>",
-    b"<a b=\"<\"/>",
-    b"<?x?><a/>",
-    b"< a/>",
+// A file, how many tags it has, and the name, the place and the depth of the last.
+const READ: [(&str, usize, &str, u64, u32); 20] = [
+    ("<a/>", 1, "a", 0, 1),
+    ("\u{feff}<a/>", 1, "a", 3, 1),
+    ("\u{feff} \n<a></a>", 1, "a", 5, 1),
+    (
+        "<?xml version='1.0' encoding='ISO-8859-1'?><a/>",
+        1,
+        "a",
+        43,
+        1,
+    ),
+    ("<!-- <b> --><a/><!-- --><?p <c> ?>", 1, "a", 12, 1),
+    ("<a><!-- <b> --><?p?><![CDATA[<c>]]><d/></a>", 2, "d", 35, 2),
+    ("<?>?><a/>", 1, "a", 5, 1),
+    ("<!-->--><a/>", 1, "a", 8, 1),
+    ("<!----><a/>", 1, "a", 7, 1),
+    ("<a b='>' c=\"/>\"/>", 1, "a", 0, 1),
+    ("<a\t\r\n b\n=\t'1'\r/>\n", 1, "a", 0, 1),
+    ("<a></a\n\t>", 1, "a", 0, 1),
+    ("<ns:a-b.c_1é/>", 1, "ns:a-b.c_1é", 0, 1),
+    ("<1!?></1!?>", 1, "1!?", 0, 1),
+    ("<a><b><c/></b><d></d></a>", 4, "d", 14, 2),
+    ("<a>é<b/>x &foo; > ]]> '</a>", 2, "b", 5, 2),
+    ("<a></a> \t\r\n", 1, "a", 0, 1),
+    ("<a></a><?p?>\n<!-- --> ", 1, "a", 0, 1),
+    ("<a b='' B=''/>", 1, "a", 0, 1),
+    ("<a><a><a/></a></a>", 3, "a", 6, 3),
 ];
 
 #[test]
-fn refusals(rt: HostRuntime) {
-    for bytes in REFUSED.iter() {
-        assert!(rt; is_refused(rt.alloc(), bytes));
+fn read(rt: HostRuntime) -> Result<(), Fail> {
+    for (text, count, name, place, depth) in READ.iter() {
+        let tags = read_tags(rt.alloc(), text.as_bytes()).ok().ok_or(*text)?;
+        assert_eq!(rt; tags.as_slice().len(), *count, "in {text}");
+        let last = tags.as_slice().last().ok_or(*text)?;
+        assert_eq!(rt; last.name.as_str(), *name, "in {text}");
+        assert_eq!(rt; last.place, *place, "in {text}");
+        assert_eq!(rt; last.depth, *depth, "in {text}");
     }
+    Ok(())
 }
 
-fn nested(alloc: Global, depth: usize) -> Result<Vec<u8>, AllocError> {
-    let mut bytes = Vec::new(alloc);
-    for _ in 0..depth {
-        bytes.extend_from_slice(b"<a>")?;
-    }
-    for _ in 0..depth {
-        bytes.extend_from_slice(b"</a>")?;
-    }
-    Ok(bytes)
-}
+// A file of one tag, and the value of its first attribute.
+const VALUES: [(&str, &str); 19] = [
+    ("<a b=\"\"/>", ""),
+    ("<a b='\"'/>", "\""),
+    ("<a b=\"'>/=]]>\"/>", "'>/=]]>"),
+    ("<a b=' \t\r\n '/>", " \t\r\n "),
+    ("<a b=';#x41;'/>", ";#x41;"),
+    ("<a b='&amp;&lt;&gt;&quot;&apos;'/>", "&<>\"'"),
+    ("<a b='1&amp;lt;2'/>", "1&lt;2"),
+    ("<a b='&#65;&#x42;&#x6a;&#x4A;'/>", "ABjJ"),
+    ("<a b='&#00065;'/>", "A"),
+    ("<a b='&#x00000000000000000041;'/>", "A"),
+    ("<a b='&#0;'/>", "\0"),
+    ("<a b='&#8364;&#x20aC;'/>", "€€"),
+    ("<a b='&#xD7FF;'/>", "\u{d7ff}"),
+    ("<a b='&#xE000;'/>", "\u{e000}"),
+    ("<a b='&#x10FFFF;'/>", "\u{10ffff}"),
+    ("<a b='&#1114111;'/>", "\u{10ffff}"),
+    ("<a b='é&#233;é'/>", "ééé"),
+    ("<a b='&#38;#65;'/>", "&#65;"),
+    ("<a\nb\t=\r\"1\" c='2'>/</a>", "1"),
+];
 
 #[test]
-fn depths(rt: HostRuntime) -> Result<(), Fail> {
-    assert!(rt; read_tags(rt.alloc(), &nested(rt.alloc(), 64)?).is_ok());
-    assert!(rt; is_refused(rt.alloc(), &nested(rt.alloc(), 65)?));
+fn values(rt: HostRuntime) -> Result<(), Fail> {
+    for (text, value) in VALUES.iter() {
+        let tags = read_tags(rt.alloc(), text.as_bytes()).ok().ok_or(*text)?;
+        let tag = tags.as_slice().first().ok_or(*text)?;
+        let attr = tag.attrs.as_slice().first().ok_or(*text)?;
+        assert_eq!(rt; attr.name.as_str(), "b", "in {text}");
+        assert_eq!(rt; attr.value.as_str(), *value, "in {text}");
+    }
+    Ok(())
+}
+
+// Values that do not fit.
+const BAD_VALUES: [&str; 27] = [
+    "<",
+    "&",
+    "&;",
+    "&amp",
+    "&foo;",
+    "&AMP;",
+    "& amp;",
+    "&amp ;",
+    "&ampx;",
+    "&#;",
+    "&#x;",
+    "&#X41;",
+    "&#xG;",
+    "&#A;",
+    "&#-1;",
+    "&#+1;",
+    "&#x+1;",
+    "&#1 ;",
+    "&#xD800;",
+    "&#xDFFF;",
+    "&#x110000;",
+    "&#1114112;",
+    "&#4294967361;",
+    "&#x100000041;",
+    "&#18446744073709551681;",
+    "&#٣;",
+    "&amp&amp;",
+];
+
+#[test]
+fn bad_values(rt: HostRuntime) -> Result<(), Fail> {
+    for value in BAD_VALUES.iter() {
+        let text = format!(in rt.alloc(); "<a b=\"1{value}\"/>")?;
+        assert!(rt;
+            is_faulted(rt.alloc(), text.as_bytes(), TagKind::BadMark, 0),
+            "at {value}"
+        );
+    }
+    Ok(())
+}
+
+// A file that is not UTF-8, and the place of its fault.
+const NOT_UTF8: [(&[u8], u64); 12] = [
+    (b"\x80", 0),
+    (b"<a>\xff</a>", 3),
+    (b"<a b=\"\xc3\"/>", 6),
+    (b"<a/>\xe2\x82", 4),
+    (b"<a/>\xc0\xaf", 4),
+    (b"<a/>\xe0\x9f\xbf", 4),
+    (b"<a/>\xed\xa0\x80", 4),
+    (b"<a/>\xf4\x90\x80\x80", 4),
+    (b"<a/>\xf8", 4),
+    (b"\xef\xbb\xbf<a>\x80", 6),
+    (b"\xef\xbb", 0),
+    (b"</b>\x80", 4),
+];
+
+#[test]
+fn not_utf8(rt: HostRuntime) {
+    for (bytes, at) in NOT_UTF8.iter() {
+        assert!(rt;
+            is_faulted(rt.alloc(), bytes, TagKind::NotUtf8, *at),
+            "at {at}"
+        );
+    }
+}
+
+// A file, and its first fault with the fault's place.
+const FAULTS: [(&str, TagKind, u64); 72] = [
+    ("", TagKind::Unclosed, 0),
+    (" \t\r\n", TagKind::Unclosed, 4),
+    ("\u{feff}", TagKind::Unclosed, 3),
+    ("<!-- c -->", TagKind::Unclosed, 10),
+    (
+        "<robot name=\"lift\"><link name=\"ba",
+        TagKind::Unclosed,
+        19,
+    ),
+    ("<a>", TagKind::Unclosed, 0),
+    ("<a><b></b>", TagKind::Unclosed, 0),
+    ("<a><b>", TagKind::Unclosed, 3),
+    ("<a", TagKind::Unclosed, 0),
+    ("<", TagKind::Unclosed, 0),
+    ("\u{feff} <", TagKind::Unclosed, 4),
+    ("<a b='>'", TagKind::Unclosed, 0),
+    ("<a b=\">", TagKind::Unclosed, 0),
+    ("<a></a '>", TagKind::Unclosed, 3),
+    ("<a></a", TagKind::Unclosed, 3),
+    ("<?>", TagKind::Unclosed, 0),
+    ("<?p ?", TagKind::Unclosed, 0),
+    ("<!-->", TagKind::Unclosed, 0),
+    ("<!--->", TagKind::Unclosed, 0),
+    ("<!-- -- >", TagKind::Unclosed, 0),
+    ("<![CDATA[ ]]", TagKind::Unclosed, 0),
+    ("<a><![CDATA[>]]</a>", TagKind::Unclosed, 3),
+    ("<!DOCTYP", TagKind::Unclosed, 0),
+    ("<!DOCTYPE", TagKind::Doctype, 0),
+    ("<!DOCTYPE a><a/>", TagKind::Doctype, 0),
+    ("<!DOCTYPEx>", TagKind::Doctype, 0),
+    (" <a><!DOCTYPE a></a>", TagKind::Doctype, 4),
+    ("<!doctype a><a/>", TagKind::BadMark, 0),
+    ("<!ELEMENT a>", TagKind::BadMark, 0),
+    ("<![cdata[]]>", TagKind::BadMark, 0),
+    ("<!>", TagKind::BadMark, 0),
+    ("<>", TagKind::BadMark, 0),
+    ("< a/>", TagKind::BadMark, 0),
+    ("</>", TagKind::BadMark, 0),
+    ("</ a>", TagKind::BadMark, 0),
+    ("<a//>", TagKind::BadMark, 0),
+    ("<a / >", TagKind::BadMark, 0),
+    ("<a b/>", TagKind::BadMark, 0),
+    ("<a b=c/>", TagKind::BadMark, 0),
+    ("<a ='1'/>", TagKind::BadMark, 0),
+    ("<a b='1'c='2'/>", TagKind::BadMark, 0),
+    ("<a !b='1'/>", TagKind::BadMark, 0),
+    ("<a'1'/>", TagKind::BadMark, 0),
+    ("<a b='<'/>", TagKind::BadMark, 0),
+    ("<a b='<'></a>", TagKind::BadMark, 0),
+    ("<a></!a>", TagKind::BadMark, 3),
+    ("<a></a b='1'>", TagKind::BadMark, 3),
+    ("<a></a/>", TagKind::BadMark, 3),
+    ("<a></a \">\">", TagKind::BadMark, 3),
+    ("<a/><b/>", TagKind::BadMark, 4),
+    ("<a></a><a/>", TagKind::BadMark, 7),
+    ("<a/><b c='' c=''/>", TagKind::BadMark, 4),
+    ("<![CDATA[]]><a/>", TagKind::BadMark, 0),
+    ("<a/><![CDATA[ ]]>", TagKind::BadMark, 4),
+    ("x<a/>", TagKind::BadMark, 0),
+    ("\n x<a", TagKind::BadMark, 2),
+    ("\u{a0}<a/>", TagKind::BadMark, 0),
+    ("\u{feff}\u{feff}<a/>", TagKind::BadMark, 3),
+    ("<a/>\n x", TagKind::BadMark, 6),
+    ("<a/>&#32;", TagKind::BadMark, 4),
+    ("x</a>", TagKind::BadMark, 0),
+    ("<a b='1' b='2'/>", TagKind::Twice, 0),
+    ("<a><b c='1' d='' c=\"1\"></c></a>", TagKind::Twice, 3),
+    ("</a>", TagKind::Mismatch, 0),
+    ("<a></b>", TagKind::Mismatch, 3),
+    ("<a></ab>", TagKind::Mismatch, 3),
+    ("<a></A>", TagKind::Mismatch, 3),
+    ("<a/></a>", TagKind::Mismatch, 4),
+    ("<a></a></a>", TagKind::Mismatch, 7),
+    ("<a><b></a></b>", TagKind::Mismatch, 6),
+    ("\u{feff}<a></b><!DOCTYPE", TagKind::Mismatch, 6),
+    ("<a/><?p", TagKind::Unclosed, 4),
+];
+
+#[test]
+fn faults(rt: HostRuntime) {
+    for (text, kind, at) in FAULTS.iter() {
+        assert!(rt;
+            is_faulted(rt.alloc(), text.as_bytes(), *kind, *at),
+            "in {text}"
+        );
+    }
+}
+
+// What follows 64 open elements, and the first fault there.
+const DEEP: [(&str, TagKind, u64); 5] = [
+    ("<a/>", TagKind::Depth, 192),
+    ("<a></a>", TagKind::Depth, 192),
+    ("<a b='' b=''>", TagKind::Twice, 192),
+    ("<a b>", TagKind::BadMark, 192),
+    ("</b>", TagKind::Mismatch, 192),
+];
+
+#[test]
+fn depth(rt: HostRuntime) -> Result<(), Fail> {
+    let mut text = repeated(rt.alloc(), "<a>", 64)?;
+    for (tail, kind, at) in DEEP.iter() {
+        let deep = format!(in rt.alloc(); "{text}{tail}")?;
+        assert!(rt;
+            is_faulted(rt.alloc(), deep.as_bytes(), *kind, *at),
+            "in {tail}"
+        );
+    }
+    text.push_str(repeated(rt.alloc(), "</a>", 64)?.as_str())?;
+    let tags = read_tags(rt.alloc(), text.as_bytes())
+        .ok()
+        .ok_or("64 deep")?;
+    let last = tags.as_slice().last().ok_or("the last tag")?;
+    assert_eq!(rt; last.place, 189);
+    assert_eq!(rt; last.depth, 64);
     Ok(())
 }
 
 #[test]
-fn text_is_copied(rt: HostRuntime) -> Result<(), Fail> {
-    let copy = Text::copy(rt.alloc(), "né")?;
-    assert_eq!(rt; copy.as_str(), "né");
+fn many(rt: HostRuntime) -> Result<(), Fail> {
+    let mut text = format!(in rt.alloc(); "<a>")?;
+    text.push_str(repeated(rt.alloc(), "<b/>", 262_143)?.as_str())?;
+    let most = format!(in rt.alloc(); "{text}</a>")?;
+    let tags = read_tags(rt.alloc(), most.as_bytes())
+        .ok()
+        .ok_or("262,144 tags")?;
+    assert_eq!(rt; tags.as_slice().len(), 262_144);
+    text.push_str("<b/></a>")?;
+    assert!(rt; is_faulted(rt.alloc(), text.as_bytes(), TagKind::TooMany, 1_048_575));
     Ok(())
+}
+
+// A piece so many times.
+fn repeated(alloc: Global, piece: &str, count: usize) -> Result<String, AllocError> {
+    let mut text = String::new(alloc);
+    for _ in 0..count {
+        text.push_str(piece)?;
+    }
+    Ok(text)
+}
+
+fn is_faulted(alloc: Global, bytes: &[u8], kind: TagKind, at: u64) -> bool {
+    match read_tags(alloc, bytes) {
+        Ok(_) => false,
+        Err(fault) => fault == TagFault { kind, at },
+    }
 }

@@ -1,5 +1,4 @@
-ghost use Rattle.std.specs.Prelude.{◌≡◌, IfOk};
-ghost use Rattle.std.specs.Str.{IsAscii};
+ghost use Rattle.std.specs.Prelude.{◌≡◌, IfOk, string_bytes};
 
 use std::alloc::{AllocError, Global};
 use std::marker::Model;
@@ -28,15 +27,11 @@ impl Text {
         })
     }
 
-    /// A text of ASCII characters.
-    pub(crate) fn of_ascii(alloc: Global, bytes: &[u8]) -> Result<Self, AllocError>
-        requires { IsAscii bytes.now }
-        ensures { IfOk result (λ copy. copy ≡ bytes.now) }
+    /// A string as a text.
+    pub(crate) fn from_string(text: String) -> Self
+        ensures { result ≡ string_bytes text }
     {
-        match str::from_utf8(bytes) {
-            Ok(text) => Text::copy(alloc, text),
-            Err(_) => unreachable!(),
-        }
+        Text { text }
     }
 
     /// The text.

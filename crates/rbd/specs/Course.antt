@@ -10,7 +10,7 @@ use Rattle.rbd.specs.declared.field.FieldFault.{FieldFault}
 use Rattle.rbd.specs.declared.cause.Cause.{Cause}
 use Rattle.rbd.specs.declared.cause.Cause.TheVariants.{Field, Refused}
 use Rattle.rbd.specs.declared.stop.Stop.{Stop}
-use Rattle.rbd.specs.declared.stop.Stop.TheVariants.{Usage, Unbuilt, LongFile, BadHeader, LongLine, LongRows}
+use Rattle.rbd.specs.declared.stop.Stop.TheVariants.{Usage, BadTags, Unbuilt, LongFile, BadHeader, LongLine, LongRows}
 use Rattle.rbd.specs.Answer.{line_of, first_line}
 use Rattle.rbd.specs.Chain.{Links}
 use Rattle.rbd.specs.Cut.{Line, lines_of}
@@ -41,7 +41,7 @@ robot_of_chain None = Err Unbuilt
 
 abbrev pub robot_of_tags : Result (List Tag) TagFault → Result Links Stop
 robot_of_tags (Ok tags) = robot_of_chain (chain_of tags)
-robot_of_tags (Err fault) = Err Unbuilt
+robot_of_tags (Err fault) = Err (BadTags fault)
 
 unfoldable pub robot_of : List ℕ → Result Links Stop
 robot_of file = if nat_lt most_file (length file) then Err LongFile else robot_of_tags (tags_of file)

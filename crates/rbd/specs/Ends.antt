@@ -1,14 +1,18 @@
 -- The status and the line on standard error of an answer.
 use Rattle.std.specs.Prelude.{◌≡◌, ◌<◌, Option, None, List, ℕ, [], ◌∷◌, ◌++◌, Bool, true, false, Result, Ok, Err, codes, decimal}
 use Rattle.rbd.specs.declared.stop.Stop.{Stop}
-use Rattle.rbd.specs.declared.stop.Stop.TheVariants.{Usage, Unbuilt, LongFile, BadHeader, LongLine, LongRows, Input, Output, Memory}
+use Rattle.rbd.specs.declared.stop.Stop.TheVariants.{Usage, BadTags, Unbuilt, LongFile, BadHeader, LongLine, LongRows, Input, Output, Memory}
 use Rattle.rbd.specs.declared.status.Status.{Status}
 use Rattle.rbd.specs.declared.status.Status.TheVariants as status
 use Rattle.rb_io.specs.Parts.{PutsPart}
+use Rattle.rb_tags.specs.declared.read.TagFault.{TagFault}
+use Rattle.rb_tags.specs.declared.read.TagKind.{TagKind}
+use Rattle.rb_tags.specs.declared.read.TagKind.TheVariants as tag
 use Rattle.rbd.specs.Course.{name_of, most_file, most_rows}
 
 abbrev pub status_of_stop : Stop → Status
 status_of_stop Usage = status.Usage
+status_of_stop (BadTags fault) = status.Robot
 status_of_stop Unbuilt = status.Robot
 status_of_stop LongFile = status.Robot
 status_of_stop BadHeader = status.Rows
@@ -34,7 +38,23 @@ is_answer status.InputFault = false
 is_answer status.OutputFault = false
 is_answer status.Memory = false
 
+abbrev pub tag_kind_text : TagKind → List ℕ
+tag_kind_text tag.NotUtf8 = codes "NotUtf8"
+tag_kind_text tag.Unclosed = codes "Unclosed"
+tag_kind_text tag.Mismatch = codes "Mismatch"
+tag_kind_text tag.Doctype = codes "Doctype"
+tag_kind_text tag.Depth = codes "Depth"
+tag_kind_text tag.Twice = codes "Twice"
+tag_kind_text tag.BadMark = codes "BadMark"
+tag_kind_text tag.TooMany = codes "TooMany"
+tag_kind_text tag.Memory = codes "Memory"
+
+-- the kind and the place of a fault
+unfoldable pub tag_fault_text : TagFault → List ℕ
+tag_fault_text fault = codes "rbd: urdf: " ++ (tag_kind_text fault.kind ++ (codes " at " ++ (decimal fault.at ++ 10 ∷ [])))
+
 abbrev pub text_of_stop : Stop → List ℕ
+text_of_stop (BadTags fault) = tag_fault_text fault
 text_of_stop Usage = codes "rbd: usage: words" ++ 10 ∷ []
 text_of_stop Unbuilt = codes "rbd: urdf: Unbuilt at 0" ++ 10 ∷ []
 text_of_stop LongFile = codes "rbd: urdf: TooLong" ++ 10 ∷ []

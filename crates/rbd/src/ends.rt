@@ -1,11 +1,12 @@
 //! The status and the line on standard error of an answer.
 ghost use Rattle.std.specs.Prelude.{◌≤◌, ◌+◌, ◌++◌, ◌∷◌, [], length, codes, decimal, ◌≡◌, ◌↔◌, ◌⊎◌, Bool, IsTrue, Result, Ok, Err};
 ghost use Rattle.rbd.specs.Stops.{is_plain};
-ghost use Rattle.rbd.specs.Ends.{status_of, is_answer, text_of};
+ghost use Rattle.rbd.specs.Ends.{status_of, is_answer, text_of, tag_kind_text, tag_fault_text};
 
 use crate::line::put_number;
 use crate::status::Status;
 use crate::stop::Stop;
+use rb_tags::{TagFault, TagKind};
 use rb_text::Out;
 
 /// The status of an answer.
@@ -16,13 +17,13 @@ pub(crate) fn status(answer: &Result<bool, Stop>) -> Status
     ensures output { result ≡ Status.OutputFault → answer.now ≡ Err Stop.Output }
     ensures memory { result ≡ Status.Memory → answer.now ≡ Err Stop.Memory }
     ensures cases { IsTrue (is_answer result) ⊎ (result ≡ Status.InputFault) ⊎ (result ≡ Status.OutputFault) ⊎ (result ≡ Status.Memory) }
-    ensures robot { result ≡ Status.Robot → (answer.now ≡ Err Stop.Unbuilt) ⊎ (answer.now ≡ Err Stop.LongFile) }
     ensures usage { (result ≡ Status.Usage) ↔ (answer.now ≡ Err Stop.Usage) }
 {
     match answer {
         Ok(false) => Status::Done,
         Ok(true) => Status::Refused,
         Err(Stop::Usage) => Status::Usage,
+        Err(Stop::BadTags(_)) => Status::Robot,
         Err(Stop::Unbuilt) => Status::Robot,
         Err(Stop::LongFile) => Status::Robot,
         Err(Stop::BadHeader) => Status::Rows,
@@ -52,6 +53,35 @@ fn put_long_line(row: u64, line: &mut Out)
     line.put(b"\n");
 }
 
+fn tag_kind_word(kind: TagKind) -> &'static [u8]
+    ensures word { result.now ≡ tag_kind_text kind }
+    ensures short { length result.now ≤ 8 }
+{
+    match kind {
+        TagKind::NotUtf8 => b"NotUtf8",
+        TagKind::Unclosed => b"Unclosed",
+        TagKind::Mismatch => b"Mismatch",
+        TagKind::Doctype => b"Doctype",
+        TagKind::Depth => b"Depth",
+        TagKind::Twice => b"Twice",
+        TagKind::BadMark => b"BadMark",
+        TagKind::TooMany => b"TooMany",
+        TagKind::Memory => b"Memory",
+    }
+}
+
+#[tactic(auto, using(std::proofs::Common::append_assoc), unfolding(crate::specs::Ends::tag_fault_text))]
+fn put_tag_fault(fault: TagFault, line: &mut Out)
+    requires { 80 ≤ line.old.spare }
+    ensures { line.new.bytes ≡ line.old.bytes ++ tag_fault_text fault }
+{
+    line.put(b"rbd: urdf: ");
+    line.put(tag_kind_word(fault.kind));
+    line.put(b" at ");
+    put_number(fault.at, line);
+    line.put(b"\n");
+}
+
 /// Puts the line of an answer for standard error.
 #[tactic(auto, unfolding(crate::specs::Ends::text_of))]
 pub(crate) fn put_text(answer: &Result<bool, Stop>, line: &mut Out)
@@ -61,6 +91,7 @@ pub(crate) fn put_text(answer: &Result<bool, Stop>, line: &mut Out)
     match answer {
         Ok(_) => {}
         Err(Stop::Usage) => line.put(b"rbd: usage: words\n"),
+        Err(Stop::BadTags(fault)) => put_tag_fault(*fault, line),
         Err(Stop::Unbuilt) => line.put(b"rbd: urdf: Unbuilt at 0\n"),
         Err(Stop::LongFile) => line.put(b"rbd: urdf: TooLong\n"),
         Err(Stop::BadHeader) => line.put(b"rbd: rows: BadHeader at field 0\n"),

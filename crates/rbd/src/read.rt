@@ -2,7 +2,7 @@
 ghost use Rattle.std.specs.Prelude.{◌≡◌, ◌≤◌, ◌<◌, ◌^◌, ◌⊎◌, IsTrue, length, codes, IfOk, IfErr, MatchResult, Result, Ok, Err};
 ghost use Rattle.rbd.specs.Course.{robot_of, rows_within, rows_of, most_file, most_line, most_rows};
 ghost use Rattle.rbd.specs.Cut.{lines_of};
-ghost use Rattle.rbd.specs.Stops.{is_plain, is_plain_stop, Causes, IsRobotStep, IsRowsStep};
+ghost use Rattle.rbd.specs.Stops.{is_plain, is_plain_stop, is_file_stop, Causes, IsRobotStep, IsRowsStep};
 
 use crate::chain::Chain;
 use crate::form::{FormFault, chain_from};
@@ -27,15 +27,15 @@ pub(crate) const MOST_ROWS: u64 = 1 << 40;
 fn chain_of_bytes(alloc: Global, bytes: &[u8]) -> Result<Chain, Stop>
     requires { length bytes.now ≤ most_file }
     ensures ok { IfOk result (λ chain. robot_of bytes.now ≡ Ok chain) }
-    ensures unbuilt { result ≡ Err Stop.Unbuilt → robot_of bytes.now ≡ Err Stop.Unbuilt }
-    ensures only { IfErr result (λ stop. (stop ≡ Stop.Unbuilt) ⊎ (stop ≡ Stop.Memory)) }
+    ensures err { IfErr result (λ stop. (stop ≡ Stop.Memory) ⊎ (robot_of bytes.now ≡ Err stop)) }
+    ensures only { IfErr result (λ stop. IsTrue (is_file_stop stop)) }
 {
     let tags = match read_tags(alloc, bytes) {
         Ok(tags) => tags,
         Err(fault) => {
             return match fault.kind {
                 TagKind::Memory => Err(Stop::Memory),
-                TagKind::Unbuilt => Err(Stop::Unbuilt),
+                _ => Err(Stop::BadTags(fault)),
             };
         }
     };

@@ -1,10 +1,14 @@
 //! What ends a run before its last row.
 
+use rb_tags::TagFault;
+
 /// Why a run ends before its last row.
 #[derive(Clone, Copy, Debug, PartialEq, Eq)]
 pub enum Stop {
     /// The words do not fit.
     Usage,
+    /// The robot's file is no list of tags.
+    BadTags(TagFault),
     /// The robot's file has no form that is taken.
     Unbuilt,
     /// The robot's file passes 8 MiB.

@@ -145,6 +145,16 @@ fn a_turning_joint_is_unbuilt(rt: HostRuntime) -> Result<(), Fail> {
 }
 
 #[test]
+fn a_cut_file_is_unclosed(rt: HostRuntime) -> Result<(), Fail> {
+    let cut = br#"<robot name="lift"><link name="ba"#;
+    let ran = run_over(rt.alloc(), cut, b"a.lift\n1.5\n")?;
+    assert_eq!(rt; ran.status, Status::Robot);
+    assert_eq!(rt; ran.out.bytes(), b"".as_slice());
+    assert_eq!(rt; ran.err.bytes(), b"rbd: urdf: Unclosed at 19\n".as_slice());
+    Ok(())
+}
+
+#[test]
 fn sizes_are_refused(rt: HostRuntime) -> Result<(), Fail> {
     let heavy = lift_of(rt.alloc(), b"1000000000000")?;
     let lifted = run_over(rt.alloc(), heavy.as_slice(), b"a.lift\n1000000000000\n")?;
