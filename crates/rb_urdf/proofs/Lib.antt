@@ -1,0 +1,17 @@
+pub mod CompleteLaws
+pub mod DraftLaws
+pub mod FirstFaults
+pub mod Folds
+pub mod JointLemmas
+pub mod LinkLaws
+pub mod MimicLaws
+pub mod NameLaws
+pub mod NumberLaws
+pub mod Numbering
+pub mod RefusedJointLaws
+pub mod RefusedLaws
+pub mod Results
+pub mod SoundLaws
+pub mod Walks
+pub mod WordLemmas
+pub mod Zips

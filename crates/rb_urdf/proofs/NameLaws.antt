@@ -1,0 +1,127 @@
+-- Names that are given, and that differ.
+use Rattle.std.proofs.Common.{◌≡◌, ◌≢◌, ℕ, zero, suc, ◌+◌, ◌<◌, inl, inr, Bool, true, false, ◌||◌, List, [], ◌∷◌, ◌++◌, length, get_or, slice_get, Some, Ok, refl, sym, ap, ◌∙◌, subst, arith, true≢false}
+use Rattle.std.specs.Prelude.{bytes_eq, codes}
+use Rattle.std.specs.List.{list_any, position_or_len}
+use Rattle.std.proofs.lemmas.Bool.{cases_lt}
+use Rattle.std.proofs.lemmas.Bool.Decides.{nat_tests}
+use Rattle.std.proofs.lemmas.Slice.Eq.{bytes_eq-Decides}
+use Rattle.std.proofs.lemmas.List.{length-append, get_or_append_left}
+use Rattle.std.proofs.Math.Seq.{get_or-append_seam}
+use Rattle.std.proofs.lemmas.Option.{slice_get-get_or, slice_get_within, get_or_from_slice_get}
+use Rattle.std.proofs.lemmas.List.Sums.{position_or_len_is}
+use Rattle.std.proofs.lemmas.List.Folds.{list_any_none}
+use Rattle.std.proofs.lemmas.List.Quantifiers.{position-Some}
+use Rattle.rb_urdf.specs.declared.faults.UrdfFaultKind.TheVariants.{NoName, NameTwice}
+use Rattle.rb_urdf.specs.Faults.{or_fault}
+use Rattle.rb_urdf.specs.Elements.{Element, attribute}
+use Rattle.rb_urdf.specs.Names.{number_of_name, given_name, new_name, name_of, name_after}
+use Rattle.rb_urdf.specs.Profile.{HasName, AreDifferent}
+use Rattle.rb_urdf.proofs.Results.{then-ok, or_fault-ok, unless-ok}
+
+given-says : (name said : List ℕ) → given_name name ≡ Ok said → (name ≡ said) × (said ≢ [])
+unfolding given_name
+given-says [] said h = absurd cc
+given-says (b ∷ bs) said h =
+    let u = unless-ok _ NoName (Ok (b ∷ bs)) said h in
+    let same : b ∷ bs ≡ said = cc in
+    (same, λ none. let clash : b ∷ bs ≡ [] = same ∙ none in absurd cc)
+
+pub name-says : (element : Element) (name : List ℕ) → name_of element ≡ Ok name → HasName element name
+unfolding name_of
+name-says element name h =
+    let p = then-ok (or_fault NoName (attribute (codes "name") element)) given_name name h in
+    let g = given-says p.0 name p.2 in
+    record { says = or_fault-ok NoName _ p.0 p.1 ∙ ap Some g.0; given = g.1 }
+
+given-read : (name : List ℕ) → name ≢ [] → given_name name ≡ Ok name
+unfolding given_name
+given-read [] some = absurd (some refl)
+given-read (b ∷ bs) some = let full : (length (b ∷ bs) ≡ 0) → ⊥ = λ e. omega arith in grind (arith, nat_tests)
+
+pub name-read : (element : Element) (name : List ℕ) → HasName element name → name_of element ≡ Ok name
+unfolding name_of
+name-read element name h = rw h.says (given-read name h.given)
+
+pub new-says : (names : List (List ℕ)) (name said : List ℕ) → new_name names name ≡ Ok said → (name ≡ said) × (list_any (bytes_eq said) names ≡ false)
+unfolding new_name
+new-says names name said h =
+    let u = unless-ok (list_any (bytes_eq name) names) NameTwice (Ok name) said h in
+    let same : name ≡ said = cc in
+    (same, subst (λ n. list_any (bytes_eq n) names ≡ false) same u.0)
+
+pub name_after-says : (names : List (List ℕ)) (element : Element) (name : List ℕ) → name_after names element ≡ Ok name → HasName element name × (list_any (bytes_eq name) names ≡ false)
+unfolding name_after
+name_after-says names element name h =
+    let p = then-ok (name_of element) (new_name names) name h in
+    let n = new-says names p.0 name p.2 in
+    (name-says element name (p.1 ∙ ap Ok n.0), n.1)
+
+pub name_after-read : (names : List (List ℕ)) (element : Element) (name : List ℕ) → HasName element name → list_any (bytes_eq name) names ≡ false → name_after names element ≡ Ok name
+unfolding name_after new_name
+name_after-read names element name h new = rw (name-read element name h, new) refl
+
+none_at : (p : List ℕ → Bool) (xs : List (List ℕ)) (i : ℕ) (d : List ℕ) → list_any p xs ≡ false → i < length xs → p (get_or xs i d) ≡ false
+none_at p [] i d h within = absurd (omega arith)
+none_at p (x ∷ xs) zero d h within = by (p x) (list_any p xs) h
+  where
+    by : (a b : Bool) → (a || b) ≡ false → a ≡ false
+    by false b h = refl
+    by true b h = absurd cc
+none_at p (x ∷ xs) (suc i) d h within = none_at p xs i d (by (p x) (list_any p xs) h) (omega arith)
+  where
+    by : (a b : Bool) → (a || b) ≡ false → b ≡ false
+    by false b h = h
+    by true b h = absurd cc
+
+-- a new name behind names that differ
+pub differ-push : (names : List (List ℕ)) (name : List ℕ) → AreDifferent names → list_any (bytes_eq name) names ≡ false → AreDifferent (names ++ name ∷ [])
+differ-push names name differ new i j d before within =
+    let size : length (names ++ name ∷ []) ≡ length names + 1 = length-append names (name ∷ []) in
+    elim (cases_lt j (length names)) [
+      | inl inside ↦ λ same. differ i j d before inside (sym (get_or_append_left names (name ∷ []) d i (omega arith)) ∙ same ∙ get_or_append_left names (name ∷ []) d j inside)
+      | inr last ↦ λ same.
+          let at : j ≡ length names = omega arith in
+          let name_at : get_or (names ++ name ∷ []) j d ≡ name = ap (λ k. get_or (names ++ name ∷ []) k d) at ∙ get_or-append_seam names name [] d in
+          let other : get_or (names ++ name ∷ []) i d ≡ get_or names i d = get_or_append_left names (name ∷ []) d i (omega arith) in
+          let equal : name ≡ get_or names i d = sym name_at ∙ sym same ∙ other in
+          true≢false (sym ((bytes_eq-Decides name (get_or names i d)).1 equal) ∙ none_at (bytes_eq name) names i d new (omega arith))
+    ]
+
+pub differ-none : AreDifferent []
+differ-none i j d before within = absurd (omega arith)
+
+-- the number of a name says where it stands
+pub number-says : (names : List (List ℕ)) (name : List ℕ) (n : ℕ) → number_of_name names name ≡ Some n → slice_get names n ≡ Some name
+unfolding number_of_name
+number-says names name n h =
+    let p = position-Some (bytes_eq name) names n name h in
+    slice_get-get_or names n name p.0 ∙ ap Some (sym ((bytes_eq-Decides name (get_or names n name)).0 p.1))
+
+unequal : (a b : List ℕ) → (a ≡ b → ⊥) → bytes_eq a b ≡ false
+unequal a b differ = by (bytes_eq a b) refl
+  where
+    by : (t : Bool) → bytes_eq a b ≡ t → bytes_eq a b ≡ false
+    by false e = e
+    by true e = absurd (differ ((bytes_eq-Decides a b).0 e))
+
+-- the number of a name among names that differ
+pub number-read : (names : List (List ℕ)) (name : List ℕ) (n : ℕ) → AreDifferent names → slice_get names n ≡ Some name → number_of_name names name ≡ Some n
+unfolding number_of_name
+number-read names name n differ at =
+    let within : n < length names = slice_get_within names n name at in
+    let here : get_or names n name ≡ name = get_or_from_slice_get names n name name at in
+    let first : position_or_len (bytes_eq name) names ≡ n =
+    position_or_len_is (bytes_eq name) names n name (omega arith)
+    (λ k before. unequal name (get_or names k name) (λ same. differ k n name before within (sym same ∙ sym here)))
+    (λ _. (bytes_eq-Decides name (get_or names n name)).1 (sym here)) in
+    rw first (grind (arith, nat_tests))
+
+-- a name among names that differ is none of those before it
+pub differ-new : (names others : List (List ℕ)) (name : List ℕ) → AreDifferent (names ++ name ∷ others) → list_any (bytes_eq name) names ≡ false
+differ-new names others name differ =
+    list_any_none (bytes_eq name) names
+    (λ k d before.
+    let size : length (names ++ name ∷ others) ≡ length names + length (name ∷ others) = length-append names (name ∷ others) in
+    unequal name (get_or names k d)
+    (λ same. differ k (length names) d before (omega arith)
+    (get_or_append_left names (name ∷ others) d k before ∙ sym same ∙ sym (get_or-append_seam names name others d))))

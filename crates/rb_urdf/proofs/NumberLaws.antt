@@ -1,0 +1,97 @@
+-- The numbers that were read are those that the texts say.
+use Rattle.std.proofs.Common.{◌≡◌, ℕ, List, [], ◌∷◌, Option, Some, None, Result, Ok, Err, refl, sym, ap, ◌∙◌}
+use Rattle.std.specs.Prelude.{codes}
+use Rattle.rb_num.specs.Interval.{Interval}
+use Rattle.rb_text.specs.Bracket.{bracket_of}
+use Rattle.rb_text.specs.declared.bracket.TextFault.{TextFault}
+use Rattle.rb_urdf.specs.declared.faults.UrdfFaultKind.{UrdfFaultKind}
+use Rattle.rb_urdf.specs.declared.numbers.Pose.{Pose}
+use Rattle.rb_urdf.specs.Elements.{Element, attribute_in}
+use Rattle.rb_urdf.specs.Numbers.{or_bad, number_in, three_words, three_in, said_or, number_or, three_or, pose_of, words, zeros}
+use Rattle.rb_urdf.specs.Profile.{SaidOr, IsNumber, IsThree, SaysNumber, SaysThree, SaysPose}
+use Rattle.rb_urdf.proofs.Results.{then-ok}
+
+or_bad-ok : (r : Result Interval TextFault) (v : Interval) → or_bad r ≡ Ok v → r ≡ Ok v
+or_bad-ok (Ok w) v h = let same : w ≡ v = cc in ap Ok same
+or_bad-ok (Err e) v h = absurd cc
+
+number-says : (text : List ℕ) (v : Interval) → number_in text ≡ Ok v → IsNumber text v
+unfolding number_in
+number-says text v h = or_bad-ok (bracket_of text) v h
+
+number-read : (text : List ℕ) (v : Interval) → IsNumber text v → number_in text ≡ Ok v
+unfolding number_in
+number-read text v h = rw h refl
+
+three_words-says : (text : List ℕ) (ws : List (List ℕ)) (v : List Interval) → words text ≡ ws → three_words ws ≡ Ok v → IsThree text v
+three_words-says text [] v w h = absurd cc
+three_words-says text (a ∷ []) v w h = absurd cc
+three_words-says text (a ∷ b ∷ []) v w h = absurd cc
+three_words-says text (a ∷ b ∷ c ∷ d ∷ ws) v w h = absurd cc
+three_words-says text (a ∷ b ∷ c ∷ []) v w h =
+    let p = then-ok (number_in a) _ v h in
+    let q = then-ok (number_in b) _ v p.2 in
+    let r = then-ok (number_in c) _ v q.2 in
+    record {
+      first = a;
+      second = b;
+      third = c;
+      x = p.0;
+      y = q.0;
+      z = r.0;
+      words_are = w;
+      x_is = number-says a p.0 p.1;
+      y_is = number-says b q.0 q.1;
+      z_is = number-says c r.0 r.1;
+      are = let same : v ≡ p.0 ∷ q.0 ∷ r.0 ∷ [] = cc in same;
+    }
+
+three-says : (text : List ℕ) (v : List Interval) → three_in text ≡ Ok v → IsThree text v
+unfolding three_in
+three-says text v h = three_words-says text (words text) v refl h
+
+three-read : (text : List ℕ) (v : List Interval) → IsThree text v → three_in text ≡ Ok v
+unfolding three_in
+three-read text v t =
+    rw (t.words_are, number-read t.first t.x t.x_is, number-read t.second t.y t.y_is, number-read t.third t.z t.z_is) (ap Ok (sym t.are))
+
+said-says : {A : Type 0} (default : A) (read : List ℕ → Result A UrdfFaultKind) (Says : List ℕ → A → Type 0) → ((text : List ℕ) (v : A) → read text ≡ Ok v → Says text v) → (said : Option (List ℕ)) (v : A) → said_or default read said ≡ Ok v → SaidOr default Says said v
+said-says default read Says each None v h = let same : v ≡ default = cc in same
+said-says default read Says each (Some text) v h = each text v h
+
+said-read : {A : Type 0} (default : A) (read : List ℕ → Result A UrdfFaultKind) (Says : List ℕ → A → Type 0) → ((text : List ℕ) (v : A) → Says text v → read text ≡ Ok v) → (said : Option (List ℕ)) (v : A) → SaidOr default Says said v → said_or default read said ≡ Ok v
+said-read default read Says each None v h = ap Ok (sym h)
+said-read default read Says each (Some text) v h = each text v h
+
+pub number_or-says : (default : Interval) (key : List ℕ) (element : Option Element) (v : Interval) → number_or default key element ≡ Ok v → SaysNumber default key element v
+unfolding number_or
+number_or-says default key element v h = said-says default number_in IsNumber number-says (attribute_in key element) v h
+
+pub number_or-read : (default : Interval) (key : List ℕ) (element : Option Element) (v : Interval) → SaysNumber default key element v → number_or default key element ≡ Ok v
+unfolding number_or
+number_or-read default key element v h = said-read default number_in IsNumber number-read (attribute_in key element) v h
+
+pub three_or-says : (default : List Interval) (key : List ℕ) (element : Option Element) (v : List Interval) → three_or default key element ≡ Ok v → SaysThree default key element v
+unfolding three_or
+three_or-says default key element v h = said-says default three_in IsThree three-says (attribute_in key element) v h
+
+pub three_or-read : (default : List Interval) (key : List ℕ) (element : Option Element) (v : List Interval) → SaysThree default key element v → three_or default key element ≡ Ok v
+unfolding three_or
+three_or-read default key element v h = said-read default three_in IsThree three-read (attribute_in key element) v h
+
+pub pose-says : (origin : Option Element) (pose : Pose) → pose_of origin ≡ Ok pose → SaysPose origin pose.xyz pose.rpy
+unfolding pose_of
+pose-says origin pose h =
+    let p = then-ok (three_or zeros (codes "xyz") origin) _ pose h in
+    let q = then-ok (three_or zeros (codes "rpy") origin) _ pose p.2 in
+    let xyz : pose.xyz ≡ p.0 = cc in
+    let rpy : pose.rpy ≡ q.0 = cc in
+    record {
+      place = three_or-says zeros (codes "xyz") origin pose.xyz (p.1 ∙ ap Ok (sym xyz));
+      turn = three_or-says zeros (codes "rpy") origin pose.rpy (q.1 ∙ ap Ok (sym rpy));
+    }
+
+pub pose-read : (origin : Option Element) (xyz rpy : List Interval) → SaysPose origin xyz rpy → pose_of origin ≡ Ok (record { xyz = xyz; rpy = rpy })
+unfolding pose_of
+pose-read origin xyz rpy s =
+    rw (three_or-read zeros (codes "xyz") origin xyz s.place, three_or-read zeros (codes "rpy") origin rpy s.turn) refl

@@ -1,0 +1,12 @@
+pub mod Elements
+pub mod Faults
+pub mod Joints
+pub mod Links
+pub mod Mimics
+pub mod Names
+pub mod Numbers
+pub mod Profile
+pub mod Refusals
+pub mod Robot
+pub mod Urdf
+pub mod Views

@@ -1,0 +1,235 @@
+// The joints of a robot, whose mimics still name the joint that they follow.
+ghost use Rattle.std.specs.Prelude.{◌≡◌, ◌≤◌, ◌^◌, ◌++◌, ◌∷◌, [], codes, length, IfOk, Ok, option_map, option_copied};
+ghost use Rattle.rb_urdf.specs.Faults.{Gives, GivesKind};
+ghost use Rattle.rb_urdf.specs.Elements.{elements};
+ghost use Rattle.rb_urdf.specs.Joints.{kind_named, kind_of, end_of, ends_of, axis_of, follow_in, follow_of, is_exactly, is_plane_axis, is_planar, draft_of, drafts_after, names_of_drafts};
+ghost use Rattle.rb_urdf.specs.Views.{seen, texts};
+
+use crate::element::{Element, attribute_in, is_child};
+use crate::faults::{UrdfFault, UrdfFaultKind, fault};
+use crate::names::{number_of, take_name};
+use crate::numbers::{ZEROS, number_or, pose_of, three_or};
+use crate::robot::{UrdfJoint, UrdfKind};
+use indexmap::IndexSet;
+use rb_num::{Iv, S};
+use rb_tags::{Tag, Text};
+use std::alloc::Global;
+
+/// The axis of a joint that names none, but for a planar one.
+const FIRST_AXIS: [Iv; 3] = [Iv::ONE, Iv::ZERO, Iv::ZERO];
+
+/// The axis of a planar joint.
+const PLANE_AXIS: [Iv; 3] = [Iv::ZERO, Iv::ZERO, Iv::ONE];
+
+/// The numbers of the links that a joint stands between.
+#[derive(Clone, Copy)]
+pub struct Ends {
+    pub parent: u32,
+    pub child: u32,
+}
+
+/// That a joint follows another: the name of that joint, the multiplier and the offset.
+#[derive(Drop)]
+pub struct Follow {
+    pub master: Option<Text>,
+    pub multiplier: Iv,
+    pub offset: Iv,
+}
+
+/// A joint, and the joint that it is to follow.
+#[derive(Drop)]
+pub struct Draft {
+    pub joint: UrdfJoint,
+    pub follow: Option<Follow>,
+}
+
+/// The kind of a type's name.
+#[tactic(auto, unfolding(crate::specs::Joints::kind_named))]
+fn kind_named(text: &str) -> Option<UrdfKind>
+    ensures { result ≡ kind_named text.now }
+{
+    if text == "revolute" {
+        Some(UrdfKind::Revolute)
+    } else if text == "continuous" {
+        Some(UrdfKind::Continuous)
+    } else if text == "prismatic" {
+        Some(UrdfKind::Prismatic)
+    } else if text == "fixed" {
+        Some(UrdfKind::Fixed)
+    } else if text == "floating" {
+        Some(UrdfKind::Floating)
+    } else if text == "planar" {
+        Some(UrdfKind::Planar)
+    } else {
+        None
+    }
+}
+
+/// The kind of a joint.
+#[tactic(auto, unfolding(crate::specs::Joints::kind_of))]
+fn kind_of(element: Element<'_>) -> Result<UrdfKind, UrdfFaultKind>
+    ensures { result ≡ kind_of (seen element.entry) }
+{
+    let Some(text) = element.attribute("type") else {
+        return Err(UrdfFaultKind::BadType);
+    };
+    match kind_named(text) {
+        Some(kind) => Ok(kind),
+        None => Err(UrdfFaultKind::BadType),
+    }
+}
+
+/// The name of the link that the element `parent` or `child` has.
+fn end_of<'a>(name: &str, element: Element<'a>) -> Option<&'a str>
+    ensures { option_copied result ≡ end_of name.now (seen element.entry) }
+{
+    attribute_in("link", element.child(name))
+}
+
+/// The numbers of the parent and the child.
+#[tactic(auto, unfolding(crate::specs::Joints::ends_of))]
+fn ends_of(links: &IndexSet<&str>, element: Element<'_>) -> Result<Ends, UrdfFaultKind>
+    requires { length (texts links.now) ≤ 2 ^ 32 }
+    ensures { result ≡ ends_of (texts links.now) (seen element.entry) }
+{
+    let Some(parent) = end_of("parent", element) else {
+        return Err(UrdfFaultKind::NoParent);
+    };
+    let Some(child) = end_of("child", element) else {
+        return Err(UrdfFaultKind::NoChild);
+    };
+    let Some(parent) = number_of(links, parent) else {
+        return Err(UrdfFaultKind::UnknownLink);
+    };
+    let Some(child) = number_of(links, child) else {
+        return Err(UrdfFaultKind::UnknownLink);
+    };
+    Ok(Ends { parent, child })
+}
+
+/// The axis of a joint of a kind, which a fixed or floating joint has none of.
+#[tactic(auto, unfolding(crate::specs::Joints::axis_of))]
+fn axis_of(kind: UrdfKind, element: Element<'_>) -> Result<[Iv; 3], UrdfFaultKind>
+    ensures { result ≡ axis_of kind (seen element.entry) }
+{
+    match kind {
+        UrdfKind::Fixed | UrdfKind::Floating => Ok(ZEROS),
+        UrdfKind::Planar => three_or(PLANE_AXIS, "xyz", element.child("axis")),
+        UrdfKind::Revolute | UrdfKind::Prismatic | UrdfKind::Continuous => {
+            three_or(FIRST_AXIS, "xyz", element.child("axis"))
+        }
+    }
+}
+
+/// A copy of a text that may be missing.
+fn copy_of(alloc: Global, text: Option<&str>) -> Result<Option<Text>, UrdfFaultKind>
+    ensures { GivesKind (λ copy. copy) result (Ok (option_copied text.entry)) }
+{
+    match text {
+        Some(text) => Ok(Some(Text::copy(alloc, text)?)),
+        None => Ok(None),
+    }
+}
+
+/// What the element `mimic` says.
+#[tactic(auto, unfolding(crate::specs::Joints::follow_in))]
+fn follow_in(alloc: Global, mimic: Element<'_>) -> Result<Follow, UrdfFaultKind>
+    ensures { GivesKind (λ follow. follow) result (follow_in (seen mimic.entry)) }
+{
+    let multiplier = number_or(Iv::ONE, "multiplier", Some(mimic))?;
+    let offset = number_or(Iv::ZERO, "offset", Some(mimic))?;
+    Ok(Follow {
+        master: copy_of(alloc, mimic.attribute("joint"))?,
+        multiplier,
+        offset,
+    })
+}
+
+/// What the element `mimic` says, where there is one.
+#[tactic(auto, unfolding(crate::specs::Joints::follow_of))]
+fn follow_of(alloc: Global, mimic: Option<Element<'_>>) -> Result<Option<Follow>, UrdfFaultKind>
+    ensures { GivesKind (λ follow. follow) result (follow_of (option_map seen mimic.entry)) }
+{
+    match mimic {
+        Some(mimic) => Ok(Some(follow_in(alloc, mimic)?)),
+        None => Ok(None),
+    }
+}
+
+/// Whether both ends are so many units.
+fn is_exactly(units: i128, v: Iv) -> bool
+    ensures { result ≡ is_exactly units v }
+{
+    v.lo() == units && v.hi() == units
+}
+
+/// Whether an axis is exactly 0 0 1.
+#[tactic(auto, unfolding(crate::specs::Joints::is_plane_axis))]
+fn is_plane_axis(axis: [Iv; 3]) -> bool
+    ensures { result ≡ is_plane_axis axis }
+{
+    let [x, y, z] = axis;
+    is_exactly(0, x) && is_exactly(0, y) && is_exactly(S, z)
+}
+
+/// The joint of an element, whose name is put behind those of a set.
+#[tactic(auto, unfolding(crate::specs::Joints::draft_of))]
+fn draft_of<'a>(
+    alloc: Global,
+    links: &IndexSet<&str>,
+    names: &mut IndexSet<&'a str>,
+    element: Element<'a>,
+) -> Result<Draft, UrdfFaultKind>
+    requires { length (texts links.now) ≤ 2 ^ 32 }
+    ensures gives { GivesKind (λ draft. draft) result (draft_of (texts links.now) (texts names.old) (seen element.entry)) }
+    ensures names { IfOk result (λ draft. texts names.new ≡ texts names.old ++ draft.joint.name ∷ []) }
+{
+    let name = take_name(names, element)?;
+    let kind = kind_of(element)?;
+    let ends = ends_of(links, element)?;
+    let pose = pose_of(element.child("origin"))?;
+    let axis = axis_of(kind, element)?;
+    let follow = follow_of(alloc, element.child("mimic"))?;
+    if kind == UrdfKind::Planar && !is_plane_axis(axis) {
+        return Err(UrdfFaultKind::PlanarAxis);
+    }
+    let joint = UrdfJoint {
+        name: Text::copy(alloc, name)?,
+        place: element.tag.place,
+        kind,
+        parent: ends.parent,
+        child: ends.child,
+        xyz: pose.xyz,
+        rpy: pose.rpy,
+        axis,
+        mimic: None,
+    };
+    Ok(Draft { joint, follow })
+}
+
+/// The joints among the tags behind the outermost one. Their names are put into an empty set.
+pub fn read_drafts<'a>(
+    alloc: Global,
+    links: &IndexSet<&str>,
+    names: &mut IndexSet<&'a str>,
+    tags: &'a [Tag],
+) -> Result<Vec<Draft>, UrdfFault>
+    requires links { length (texts links.now) ≤ 2 ^ 32 }
+    requires none { texts names.old ≡ [] }
+    ensures gives { Gives (λ drafts. drafts.items) result (drafts_after (texts links.now) [] (elements (codes "joint") 1 tags.now)) }
+    ensures names { IfOk result (λ drafts. texts names.new ≡ names_of_drafts drafts.items) }
+    ensures few { IfOk result (λ drafts. length drafts.items ≤ length tags.now) }
+{
+    let mut drafts = Vec::new(alloc);
+    let mut rest = tags;
+    while let [tag, behind @ ..] = rest {
+        if is_child("joint", 1, tag) {
+            match draft_of(alloc, links, names, Element::new(tag, behind)) {
+                Ok(draft) => drafts.push(draft)?,
+                Err(kind) => return Err(fault(kind, tag.place)),
+            }
+        }
+        rest = behind;
+    }
+    Ok(drafts)
+}

@@ -1,0 +1,409 @@
+use super::*;
+use rb_num::{Iv, S};
+use rb_tags::read_tags;
+use std::alloc::Global;
+use std::test::*;
+
+// A file, and the kind and the place of its fault.
+const FILES: [(&str, UrdfFaultKind, u64); 26] = [
+    ("<lift/>", UrdfFaultKind::NoRobot, 0),
+    ("<Robot name='r'/>", UrdfFaultKind::NoRobot, 0),
+    ("<!-- --><robots name='r'/>", UrdfFaultKind::NoRobot, 8),
+    ("<xacro:robot/>", UrdfFaultKind::NoRobot, 0),
+    ("<robot><xacro:a/></robot>", UrdfFaultKind::Xacro, 7),
+    (
+        "<robot name='r'><link><xacro:b/></link><xacro:c/></robot>",
+        UrdfFaultKind::Xacro,
+        22,
+    ),
+    ("<robot><link/></robot>", UrdfFaultKind::NoName, 0),
+    ("<robot name=''/>", UrdfFaultKind::NoName, 0),
+    ("<robot name='r'><link/></robot>", UrdfFaultKind::NoName, 16),
+    (
+        "<robot name='r'><link name=''/></robot>",
+        UrdfFaultKind::NoName,
+        16,
+    ),
+    (
+        "<robot name='r'><joint/><link/></robot>",
+        UrdfFaultKind::NoName,
+        24,
+    ),
+    (
+        "<robot name='r'><link name='a'/><link name='a'/></robot>",
+        UrdfFaultKind::NameTwice,
+        32,
+    ),
+    (
+        "<robot name='r'><link name='a'/><link name='a'><inertial><mass value='x'/></inertial></link></robot>",
+        UrdfFaultKind::NameTwice,
+        32,
+    ),
+    (
+        "<robot name='r'><link name='a'><inertial><mass value='x'/></inertial></link></robot>",
+        UrdfFaultKind::BadNumber,
+        16,
+    ),
+    (
+        "<robot name='r'><link name='a'><inertial><mass value=''/></inertial></link></robot>",
+        UrdfFaultKind::BadNumber,
+        16,
+    ),
+    (
+        "<robot name='r'><link name='a'><inertial><mass value='1\n'/></inertial></link></robot>",
+        UrdfFaultKind::BadNumber,
+        16,
+    ),
+    (
+        "<robot name='r'><link name='a'><inertial><mass value='-1'/><origin rpy='0 0'/></inertial></link></robot>",
+        UrdfFaultKind::BadNumber,
+        16,
+    ),
+    (
+        "<robot name='r'><link name='a'><inertial><origin xyz='1 2 3 4'/></inertial></link></robot>",
+        UrdfFaultKind::BadNumber,
+        16,
+    ),
+    (
+        "<robot name='r'><link name='a'><inertial><origin xyz='1,2,3'/></inertial></link></robot>",
+        UrdfFaultKind::BadNumber,
+        16,
+    ),
+    (
+        "<robot name='r'><link name='a'><inertial><origin xyz=' '/></inertial></link></robot>",
+        UrdfFaultKind::BadNumber,
+        16,
+    ),
+    (
+        "<robot name='r'><link name='a'><inertial><mass value='-1'/><inertia izz='x'/></inertial></link></robot>",
+        UrdfFaultKind::BadNumber,
+        16,
+    ),
+    (
+        "<robot name='r'><link name='a'><inertial><mass value='-1'/></inertial></link></robot>",
+        UrdfFaultKind::NegativeMass,
+        16,
+    ),
+    (
+        "<robot name='r'><link name='a'/><link name='b'><inertial><mass value='-0.0000000000001'/></inertial></link></robot>",
+        UrdfFaultKind::NegativeMass,
+        32,
+    ),
+    (
+        "<robot name='r'><link name='a'><inertial><mass value='-1'/></inertial></link><link/></robot>",
+        UrdfFaultKind::NegativeMass,
+        16,
+    ),
+    (
+        "<robot name='r'><joint name='j'/><link name='a'/></robot>",
+        UrdfFaultKind::BadType,
+        16,
+    ),
+    (
+        "<robot name='r'><link><link name='a'/></link></robot>",
+        UrdfFaultKind::NoName,
+        16,
+    ),
+];
+
+// What follows the links `a` and `b` of a robot, and the kind and the place of its fault. The first joint is at 48.
+const JOINTS: [(&str, UrdfFaultKind, u64); 34] = [
+    ("<joint/>", UrdfFaultKind::NoName, 48),
+    ("<joint name='' type='x'/>", UrdfFaultKind::NoName, 48),
+    ("<joint name='j'/>", UrdfFaultKind::BadType, 48),
+    ("<joint name='j' type=''/>", UrdfFaultKind::BadType, 48),
+    ("<joint name='j' type='Fixed'/>", UrdfFaultKind::BadType, 48),
+    (
+        "<joint name='j' type='screw'><child link='c'/></joint>",
+        UrdfFaultKind::BadType,
+        48,
+    ),
+    (
+        "<joint name='j' type='fixed'/>",
+        UrdfFaultKind::NoParent,
+        48,
+    ),
+    (
+        "<joint name='j' type='fixed'><child link='c'/></joint>",
+        UrdfFaultKind::NoParent,
+        48,
+    ),
+    (
+        "<joint name='j' type='fixed'><parent/><parent link='a'/></joint>",
+        UrdfFaultKind::NoParent,
+        48,
+    ),
+    (
+        "<joint name='j' type='fixed'><x><parent link='a'/></x></joint>",
+        UrdfFaultKind::NoParent,
+        48,
+    ),
+    (
+        "<joint name='j' type='fixed'><parent link='c'/></joint>",
+        UrdfFaultKind::NoChild,
+        48,
+    ),
+    (
+        "<joint name='j' type='fixed'><child/><parent link='a'/></joint>",
+        UrdfFaultKind::NoChild,
+        48,
+    ),
+    (
+        "<joint name='j' type='fixed'><parent link='c'/><child link='b'/><origin xyz='x'/></joint>",
+        UrdfFaultKind::UnknownLink,
+        48,
+    ),
+    (
+        "<joint name='j' type='fixed'><parent link='a'/><child link='c'/><origin xyz='x'/></joint>",
+        UrdfFaultKind::UnknownLink,
+        48,
+    ),
+    (
+        "<joint name='j' type='fixed'><parent link='a'/><child link=''/></joint>",
+        UrdfFaultKind::UnknownLink,
+        48,
+    ),
+    (
+        "<joint name='j' type='fixed'><parent link='a'/><child link='b'/><origin xyz='0 0'/></joint>",
+        UrdfFaultKind::BadNumber,
+        48,
+    ),
+    (
+        "<joint name='j' type='fixed'><parent link='a'/><child link='b'/><mimic offset='x'/></joint>",
+        UrdfFaultKind::BadNumber,
+        48,
+    ),
+    (
+        "<joint name='j' type='revolute'><parent link='a'/><child link='b'/><axis xyz='1 0'/></joint>",
+        UrdfFaultKind::BadNumber,
+        48,
+    ),
+    (
+        "<joint name='j' type='planar'><parent link='a'/><child link='b'/><axis xyz='1 0'/></joint>",
+        UrdfFaultKind::BadNumber,
+        48,
+    ),
+    (
+        "<joint name='j' type='planar'><parent link='a'/><child link='b'/><axis xyz='1 0 0'/><mimic multiplier='x'/></joint>",
+        UrdfFaultKind::BadNumber,
+        48,
+    ),
+    (
+        "<joint name='j' type='planar'><parent link='a'/><child link='b'/><axis xyz='1 0 0'/><mimic/></joint>",
+        UrdfFaultKind::PlanarAxis,
+        48,
+    ),
+    (
+        "<joint name='j' type='planar'><parent link='a'/><child link='b'/><axis xyz='0 0 1.0000000000001'/></joint>",
+        UrdfFaultKind::PlanarAxis,
+        48,
+    ),
+    (
+        "<joint name='j' type='fixed'><parent link='a'/><child link='b'/></joint><joint name='j'/>",
+        UrdfFaultKind::NameTwice,
+        120,
+    ),
+    (
+        "<joint name='j' type='revolute'><parent link='a'/><child link='b'/><mimic/></joint>",
+        UrdfFaultKind::MimicUnknown,
+        48,
+    ),
+    (
+        "<joint name='j' type='fixed'><parent link='a'/><child link='b'/><mimic joint='a'/></joint>",
+        UrdfFaultKind::MimicUnknown,
+        48,
+    ),
+    (
+        "<joint name='j' type='revolute'><parent link='a'/><child link='b'/><mimic joint=''/></joint>",
+        UrdfFaultKind::MimicUnknown,
+        48,
+    ),
+    (
+        "<joint name='j' type='revolute'><parent link='a'/><child link='b'/><mimic joint='j'/></joint>",
+        UrdfFaultKind::MimicChain,
+        48,
+    ),
+    (
+        "<joint name='j' type='fixed'><parent link='a'/><child link='b'/><mimic joint='k'/></joint><joint name='k' type='fixed'><parent link='a'/><child link='b'/><mimic joint='j'/></joint>",
+        UrdfFaultKind::MimicChain,
+        48,
+    ),
+    (
+        "<joint name='k' type='revolute'><parent link='a'/><child link='b'/></joint><joint name='j' type='fixed'><parent link='a'/><child link='b'/><mimic joint='k'/></joint>",
+        UrdfFaultKind::MimicMaster,
+        123,
+    ),
+    (
+        "<joint name='k' type='fixed'><parent link='a'/><child link='b'/></joint><joint name='j' type='revolute'><parent link='a'/><child link='b'/><mimic joint='k'/></joint>",
+        UrdfFaultKind::MimicMaster,
+        120,
+    ),
+    (
+        "<joint name='k' type='planar'><parent link='a'/><child link='b'/></joint><joint name='j' type='revolute'><parent link='a'/><child link='b'/><mimic joint='k'/></joint>",
+        UrdfFaultKind::MimicMaster,
+        121,
+    ),
+    (
+        "<joint name='k' type='continuous'><parent link='a'/><child link='b'/></joint><joint name='j' type='revolute'><parent link='a'/><child link='b'/><mimic joint='k'/></joint>",
+        UrdfFaultKind::MimicMaster,
+        125,
+    ),
+    (
+        "<joint name='k' type='prismatic'><parent link='a'/><child link='b'/></joint><joint name='j' type='floating'><parent link='a'/><child link='b'/><mimic joint='k'/></joint>",
+        UrdfFaultKind::MimicMaster,
+        124,
+    ),
+    (
+        "<joint name='j' type='revolute'><parent link='a'/><child link='b'/><mimic joint='k'/></joint><joint/>",
+        UrdfFaultKind::NoName,
+        141,
+    ),
+];
+
+fn is_faulted(alloc: Global, text: &str, kind: UrdfFaultKind, at: u64) -> bool {
+    match read_tags(alloc, text.as_bytes()) {
+        Ok(tags) => match read_urdf(alloc, &tags) {
+            Ok(_) => false,
+            Err(fault) => fault == UrdfFault { kind, at },
+        },
+        Err(_) => false,
+    }
+}
+
+#[test]
+fn files_are_refused(rt: HostRuntime) -> Result<(), Fail> {
+    for (text, kind, at) in FILES.iter() {
+        assert!(rt; is_faulted(rt.alloc(), *text, *kind, *at));
+    }
+    Ok(())
+}
+
+#[test]
+fn joints_are_refused(rt: HostRuntime) -> Result<(), Fail> {
+    for (joints, kind, at) in JOINTS.iter() {
+        let text = format!(in rt.alloc();
+            "<robot name='r'><link name='a'/><link name='b'/>{joints}</robot>"
+        )?;
+        assert!(rt; is_faulted(rt.alloc(), text.as_str(), *kind, *at));
+    }
+    Ok(())
+}
+
+const ARM: &str = "<robot name='arm'>
+<link name='a'>
+  <visual><origin xyz='9 9 9'/></visual>
+  <inertial>
+    <origin xyz='1 2\t3\n'/><origin xyz='4 5 6' rpy='7 8 9'/>
+    <mass value=' 2.5\t'/><mass value='x'/>
+    <inertia ixx='1' iyz='-0.0000000000001'/>
+  </inertial>
+  <inertial><mass value='3'/></inertial>
+</link>
+<group><link name='a'/><joint/></group>
+<link name='b'/>
+<joint name='a' type='continuous'>
+  <child link='a'/><parent link='b'/><child link='x'/>
+  <origin rpy='0 0 1'/>
+  <mimic joint='m' multiplier='-2'/>
+</joint>
+<joint name='m' type='prismatic'><parent link='a'/><child link='b'/><axis xyz='0 1 0'/></joint>
+<joint name='f' type='fixed'><parent link='a'/><child link='b'/><axis xyz='x'/></joint>
+<joint name='p' type='planar'><parent link='a'/><child link='b'/></joint>
+<joint name='c' type='continuous'><parent link='a'/><child link='b'/></joint>
+</robot>";
+
+// The robot of the arm.
+fn arm(alloc: Global) -> Result<UrdfRobot, &'static str> {
+    let tags = read_tags(alloc, ARM.as_bytes()).ok().ok_or("tags")?;
+    read_urdf(alloc, &tags).ok().ok_or("a robot")
+}
+
+// So many whole units of 1.
+fn whole(n: i8) -> Iv {
+    let units = i128::from(n) * S;
+    Iv::new(units, units)
+}
+
+fn is_link(link: &UrdfLink, name: &str, place: u64, mass: Iv, com: [Iv; 3], six: [Iv; 6]) -> bool {
+    link.name.as_str() == name
+        && link.place == place
+        && link.mass == mass
+        && link.com == com
+        && link.rpy == [Iv::ZERO, Iv::ZERO, Iv::ZERO]
+        && link.six == six
+}
+
+#[test]
+fn links_are_read(rt: HostRuntime) -> Result<(), Fail> {
+    let robot = arm(rt.alloc())?;
+    let links = robot.links().as_slice();
+    assert_eq!(rt; links.len(), 2);
+    let half = Iv::new(2_500_000_000_000, 2_500_000_000_000);
+    let centre = [whole(1), whole(2), whole(3)];
+    let least = Iv::new(-1, 0);
+    let six = [whole(1), Iv::ZERO, Iv::ZERO, Iv::ZERO, least, Iv::ZERO];
+    assert!(rt; is_link(links.get(0).ok_or("a")?, "a", 19, half, centre, six));
+    Ok(())
+}
+
+#[test]
+fn defaults_are_read(rt: HostRuntime) -> Result<(), Fail> {
+    let robot = arm(rt.alloc())?;
+    assert_eq!(rt; robot.name(), "arm");
+    let b = robot.links().as_slice().get(1).ok_or("b")?;
+    let zero = Iv::ZERO;
+    assert!(rt;
+        is_link(
+            b,
+            "b",
+            b.place,
+            zero,
+            [zero, zero, zero],
+            [zero, zero, zero, zero, zero, zero]
+        )
+    );
+    Ok(())
+}
+
+fn is_joint(
+    robot: &UrdfRobot,
+    number: usize,
+    kind: UrdfKind,
+    axis: [Iv; 3],
+    mimic: Option<UrdfMimic>,
+) -> bool {
+    match robot.joints().as_slice().get(number) {
+        Some(joint) => joint.kind == kind && joint.axis == axis && joint.mimic == mimic,
+        None => false,
+    }
+}
+
+#[test]
+fn joints_are_read(rt: HostRuntime) -> Result<(), Fail> {
+    let robot = arm(rt.alloc())?;
+    assert_eq!(rt; robot.joints().as_slice().len(), 5);
+    let (zero, one) = (Iv::ZERO, Iv::ONE);
+    let (x, y, z) = ([one, zero, zero], [zero, one, zero], [zero, zero, one]);
+    let mimic = UrdfMimic {
+        master: 1,
+        multiplier: whole(-2),
+        offset: zero,
+    };
+    assert!(rt; is_joint(&robot, 0, UrdfKind::Revolute, x, Some(mimic)));
+    assert!(rt; is_joint(&robot, 1, UrdfKind::Prismatic, y, None));
+    assert!(rt; is_joint(&robot, 2, UrdfKind::Fixed, [zero, zero, zero], None));
+    assert!(rt; is_joint(&robot, 3, UrdfKind::Planar, z, None));
+    assert!(rt; is_joint(&robot, 4, UrdfKind::Continuous, x, None));
+    Ok(())
+}
+
+#[test]
+fn ends_are_read(rt: HostRuntime) -> Result<(), Fail> {
+    let robot = arm(rt.alloc())?;
+    let joint = robot.joints().as_slice().get(0).ok_or("a")?;
+    assert_eq!(rt; joint.parent, 1);
+    assert_eq!(rt; joint.child, 0);
+    assert!(rt; joint.xyz == [Iv::ZERO, Iv::ZERO, Iv::ZERO]);
+    assert!(rt; joint.rpy == [Iv::ZERO, Iv::ZERO, Iv::ONE]);
+    Ok(())
+}
