@@ -3,14 +3,14 @@ use Rattle.std.specs.Prelude.{Result, Ok, Err, List, [], ◌∷◌}
 use Rattle.rb_frac.specs.Ops.{V3}
 use Rattle.rb_num.specs.declared.interval.NumFault.{NumFault}
 use Rattle.rb_num.specs.Interval.{Interval}
-use Rattle.rb_num.specs.Arith.{intervals}
+use Rattle.rb_num.specs.Arith.{intervals, then}
 use Rattle.rb_spatial.specs.Tables.{Symmetric, Placing, Pose, none}
 use Rattle.rb_trig.specs.declared.sine.AngleRange.{AngleRange}
 use Rattle.rb_trig.specs.Sine.{sin_cos_of}
 use Rattle.rb_flat.specs.Tables.{Turn}
 use Rattle.rb_joint.specs.declared.faults.JointFault.{JointFault}
 use Rattle.rb_joint.specs.declared.faults.JointFault.TheVariants.{Range, Size}
-use Rattle.rb_joint.specs.Rules.{rotation, place_fixed, place_turned, place_along}
+use Rattle.rb_joint.specs.Rules.{rotation, axis_products, place_fixed, place_turned, place_along}
 
 -- the first refusal, or the answer of the second step
 abbrev pub next : {A B : Type 0} → Result A JointFault → (A → Result B JointFault) → Result B JointFault
@@ -56,6 +56,10 @@ prismatic_place f a d = sized (place_along intervals f a d)
 pub record Axial : Type 0 where
   pub frame : Pose Interval
   pub axis : V3 Interval
+
+-- both, refused where a product of two parts of the axis is
+unfoldable pub axial_by : Pose Interval → V3 Interval → Result Axial NumFault
+axial_by f a = then (axis_products intervals a) (λ p. Ok (record { frame = f; axis = a }))
 
 -- the products of an axis, where they are within the limit
 abbrev pub kept : Result (Symmetric Interval) NumFault → Symmetric Interval

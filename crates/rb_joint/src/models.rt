@@ -1,6 +1,7 @@
-ghost use Rattle.std.specs.Prelude.{◌≡◌, IfErr, IfOk, Ok, Err};
+ghost use Rattle.std.specs.Prelude.{◌≡◌, IfErr, IfOk, Ok};
 ghost use Rattle.rb_num.specs.Arith.{intervals};
-ghost use Rattle.rb_joint.specs.Rules.{shift_along as shift_along_of, axis_products as products_of, origin as origin_of};
+ghost use Rattle.rb_joint.specs.Rules.{shift_along as shift_along_of, origin as origin_of};
+ghost use Rattle.rb_joint.specs.Models.{axial_by};
 
 use crate::faults::JointFault;
 use crate::frames::turn_by;
@@ -120,9 +121,10 @@ impl Model for Revolute {
 impl Revolute {
     /// About `axis` in `frame`. It is refused with `Size` exactly where a product of two parts of the
     /// axis is.
+    #[tactic(auto, unfolding(crate::specs::Models::axial_by))]
     pub fn new(frame: Frame, axis: Vec3) -> Result<Revolute, NumFault>
+        ensures exact { result ≡ axial_by frame axis }
         ensures ok { IfOk result (λ m. m ≡ record { frame = frame; axis = axis }) }
-        ensures err { IfErr result (λ e. products_of intervals axis ≡ Err e) }
         ensures size { IfErr result (λ e. e ≡ NumFault.Size) }
     {
         let products = axis_products(&axis)?;

@@ -151,7 +151,7 @@ module _ {R Q : Arith} (K : Relates R Q) where
   unfolding product
   product_met hs ht = rows_met (row_mul_met hs.x ht) (row_mul_met hs.y ht) (row_mul_met hs.z ht)
 
-  upper_product_met : {s t : Table R.N} {s' t' : Table Q.N} → Tables K.rel s s' → Tables K.rel t t' → Met K (Symmetrics K.rel) (upper_product R s t) (upper_product Q s' t')
+  pub upper_product_met : {s t : Table R.N} {s' t' : Table Q.N} → Tables K.rel s s' → Tables K.rel t t' → Met K (Symmetrics K.rel) (upper_product R s t) (upper_product Q s' t')
   unfolding upper_product
   upper_product_met hs ht = search (six_met, dot_met K) depth 9
 

@@ -47,10 +47,11 @@ pub fn product(s: &Mat3, t: &Mat3) -> Result<Mat3, NumFault>
     Ok(Mat3::new(x, y, z))
 }
 
-// The entries on and above the diagonal of a symmetric product, from the columns of its second
-// factor.
+/// The entries on and above the diagonal of a product that is symmetric, from the columns of its
+/// second factor, each a sum of three products. It is refused with `Size` exactly where one of these
+/// is.
 #[tactic(auto, unfolding(crate::specs::Rules::upper_product))]
-fn upper_product(s: &Mat3, columns: &Mat3) -> Result<Sym3, NumFault>
+pub fn upper_product(s: &Mat3, columns: &Mat3) -> Result<Sym3, NumFault>
     ensures exact { result ≡ upper_product_of intervals s.now columns.now }
     ensures size { IfErr result (λ e. e ≡ NumFault.Size) }
 {

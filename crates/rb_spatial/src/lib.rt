@@ -7,7 +7,7 @@ pub mod laws;
 mod motions;
 mod vectors;
 
-pub use carrying::{carry, product};
+pub use carrying::{carry, product, upper_product};
 pub use inertias::{BodyInertia, Inertia6, less_outer, sum, table, times};
 pub use motions::{Force, Frame, Motion, Place, apply, apply_dual, cross, cross_dual, power};
 pub use vectors::{Mat3, Sym3, Vec3};

@@ -1,0 +1,82 @@
+-- The constants of a body: the inertia of its link and the model of its joint, or the first refusal.
+use Rattle.std.specs.Prelude.{◌≡◌, Result, Ok, Err, IsOk, List, [], ◌∷◌}
+use Rattle.rb_frac.specs.Ops.{V3}
+use Rattle.rb_num.specs.Interval.{Interval}
+use Rattle.rb_num.specs.Arith.{intervals}
+use Rattle.rb_num.specs.Quotient.{HasZero}
+use Rattle.rb_spatial.specs.Tables.{Pose, Body, none, vector_of}
+use Rattle.rb_trig.specs.Axis.{AxisFits, MakesUnit, squared_length, unit_scale_of}
+use Rattle.rb_flat.specs.Choice.{LinkBrackets}
+use Rattle.rb_joint.specs.declared.any.AnyJoint.{AnyJoint}
+use Rattle.rb_joint.specs.declared.any.AnyJoint.TheVariants as Variant
+use Rattle.rb_joint.specs.Models.{frame_by, axial_by}
+use Rattle.rb_body.specs.declared.faults.BodyFault.{BodyFault}
+use Rattle.rb_body.specs.declared.faults.BodyFault.TheVariants.{Size}
+use Rattle.rb_urdf.specs.declared.robot.UrdfKind.{UrdfKind}
+use Rattle.rb_urdf.specs.declared.robot.UrdfKind.TheVariants.{Fixed, Revolute, Prismatic}
+use Rattle.rb_body.specs.declared.raw.JointRaw.{JointRaw}
+use Rattle.rb_body.specs.Tables.{symmetric}
+use Rattle.rb_body.specs.Faults.{of_frame, of_axis, of_number, next, step}
+use Rattle.rb_body.specs.Raw.{HasAxis}
+use Rattle.rb_body.specs.Rules.{scaled, body}
+
+-- ---- links
+unfoldable pub inertia_by : LinkBrackets → Result (Body Interval) BodyFault
+inertia_by l =
+    next (step of_frame (frame_by l.centre l.rpy)) (λ f. step of_number (body intervals f.rot l.mass l.centre (symmetric l.six)))
+
+-- ---- joints
+-- the factor of the axis, and the axis taken times it
+unfoldable pub axis_by : V3 Interval → Result (Interval × V3 Interval) BodyFault
+axis_by v =
+    next (step of_axis (unit_scale_of v.x v.y v.z)) (λ k. next (step of_number (scaled intervals k v)) (λ a. Ok (k, a)))
+
+abbrev pub no_axis : List Interval
+no_axis = none ∷ none ∷ none ∷ []
+
+-- a model, and the numbers that it is made of
+abbrev pub Answer : Type 0
+Answer = Result (AnyJoint × JointRaw) BodyFault
+
+abbrev pub raw : UrdfKind → List Interval → List Interval → List Interval → Interval → JointRaw
+raw kind xyz rpy axis k = record { kind = kind; xyz = xyz; rpy = rpy; axis = axis; factor = k }
+
+unfoldable pub fixed_by : Pose Interval → List Interval → List Interval → AnyJoint × JointRaw
+fixed_by f xyz rpy = (Variant.Fixed (record { frame = f }), raw Fixed xyz rpy no_axis none)
+
+unfoldable pub revolute_by : Pose Interval → List Interval → List Interval → List Interval → Answer
+revolute_by f xyz rpy axis =
+    next (axis_by (vector_of axis)) (λ a.
+    next (step of_number (axial_by f a.1)) (λ m. Ok (Variant.Revolute m, raw Revolute xyz rpy axis a.0)))
+
+unfoldable pub prismatic_by : Pose Interval → List Interval → List Interval → List Interval → Answer
+prismatic_by f xyz rpy axis =
+    next (axis_by (vector_of axis)) (λ a. Ok (Variant.Prismatic (record { frame = f; axis = a.1 }), raw Prismatic xyz rpy axis a.0))
+
+-- in the frame; a kind without a model is asked for by no call
+abbrev pub joint_in : UrdfKind → Pose Interval → List Interval → List Interval → List Interval → Answer
+joint_in Fixed f xyz rpy axis = Ok (fixed_by f xyz rpy)
+joint_in Revolute f xyz rpy axis = revolute_by f xyz rpy axis
+joint_in Prismatic f xyz rpy axis = prismatic_by f xyz rpy axis
+joint_in _ f xyz rpy axis = Err Size
+
+unfoldable pub joint_by : UrdfKind → List Interval → List Interval → List Interval → Answer
+joint_by kind xyz rpy axis =
+    next (step of_frame (frame_by (vector_of xyz) (vector_of rpy))) (λ f. joint_in kind f xyz rpy axis)
+
+-- the frame is not refused, and the joint needs an axis, which may be zero
+pub record IsZeroAxis (kind : UrdfKind) (xyz rpy axis : V3 Interval) : Type 0 where
+  pub frame : IsOk (frame_by xyz rpy)
+  pub needed : HasAxis kind
+  pub fits : AxisFits axis.x axis.y axis.z
+  pub zero : HasZero (squared_length axis.x axis.y axis.z)
+
+-- the kind, the origin, the angles and the axis are those given, with a factor that makes the axis one unit long; without an axis both are
+-- zero
+pub record HasNumbers (k : UrdfKind) (xyz rpy a : List Interval) (j : JointRaw) : Type 0 where
+  pub kind : j.kind ≡ k
+  pub origin : j.xyz ≡ xyz
+  pub angles : j.rpy ≡ rpy
+  pub axis : HasAxis k → j.axis ≡ a
+  pub unit : HasAxis k → MakesUnit (vector_of a).x (vector_of a).y (vector_of a).z j.factor
+  pub zero : ¬ HasAxis k → (j.axis ≡ no_axis) × (j.factor ≡ none)

@@ -1,0 +1,58 @@
+-- What the numbers of a link and of a joint are to the equations: brackets, and a kind.
+use Rattle.std.specs.Prelude.{List}
+use Rattle.rb_num.specs.Interval.{Interval}
+use Rattle.rb_spatial.specs.Tables.{vector_of, symmetric_of}
+use Rattle.rb_flat.specs.Joint as Flat
+use Rattle.rb_flat.specs.Joint.{Kind}
+use Rattle.rb_flat.specs.Choice.{LinkBrackets, JointBrackets}
+use Rattle.rb_urdf.specs.declared.robot.UrdfKind.{UrdfKind}
+use Rattle.rb_urdf.specs.declared.robot.UrdfKind.TheVariants.{Fixed, Revolute, Prismatic, Continuous, Planar, Floating}
+use Rattle.rb_body.specs.declared.raw.LinkRaw.{LinkRaw}
+use Rattle.rb_body.specs.declared.raw.JointRaw.{JointRaw}
+use Rattle.rb_body.specs.Tables.{flat}
+
+-- the kind in the joint relation
+abbrev pub kind_of : UrdfKind → Kind
+kind_of Fixed = Flat.Fixed
+kind_of Revolute = Flat.Revolute
+kind_of Prismatic = Flat.Prismatic
+kind_of Continuous = Flat.Continuous
+kind_of Planar = Flat.Planar
+kind_of Floating = Flat.Free
+
+-- there is a model for joints of the kind
+abbrev pub HasModel : UrdfKind → Type 0
+HasModel Fixed = Unit {0}
+HasModel Revolute = Unit {0}
+HasModel Prismatic = Unit {0}
+HasModel Continuous = ⊥
+HasModel Planar = ⊥
+HasModel Floating = ⊥
+
+-- joints of the kind have an axis
+abbrev pub HasAxis : UrdfKind → Type 0
+HasAxis Fixed = ⊥
+HasAxis Revolute = Unit {0}
+HasAxis Prismatic = Unit {0}
+HasAxis Continuous = Unit {0}
+HasAxis Planar = ⊥
+HasAxis Floating = ⊥
+
+abbrev pub link_brackets : LinkRaw → LinkBrackets
+link_brackets l = record {
+  mass = l.mass;
+  centre = vector_of l.com;
+  rpy = vector_of l.rpy;
+  six = flat (symmetric_of l.six);
+}
+
+-- with the entries q of the position
+abbrev pub joint_brackets : JointRaw → List Interval → JointBrackets
+joint_brackets j q = record {
+  kind = kind_of j.kind;
+  origin = vector_of j.xyz;
+  rpy = vector_of j.rpy;
+  axis = vector_of j.axis;
+  factor = j.factor;
+  entries = q;
+}
