@@ -1,0 +1,15 @@
+-- What the answer of a test tells, and what holds of each number below the next.
+use Rattle.std.proofs.Common.{◌≡◌, ◌<◌, ◌≤◌, ◌+◌, ℕ, Bool, true, false, IsTrue, ◌↔◌, arith, inl, inr, subst, sym}
+use Rattle.std.proofs.Math.Nat.{eq-or-lt_of_le}
+
+pub holds : (b : Bool) (P : Type 0) → (IsTrue b ↔ P) → b ≡ true → P
+holds b P e h = e.0 h
+
+pub fails : (b : Bool) (P : Type 0) → (IsTrue b ↔ P) → b ≡ false → P → ⊥
+fails b P e h p = let t : b ≡ true = e.1 p in cc
+
+-- what holds from a number on, and of the next
+pub more_from : (P : ℕ → Type 0) (low n : ℕ) → ((k : ℕ) → low ≤ k → k < n → P k) → P n → (k : ℕ) → low ≤ k → k < n + 1 → P k
+more_from P low n below here k least high =
+    let le : k ≤ n = omega arith in
+    elim (eq-or-lt_of_le le) [ inl e ↦ subst P (sym e) here | inr lt ↦ below k least lt ]

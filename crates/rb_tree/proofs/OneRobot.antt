@@ -1,0 +1,179 @@
+-- A robot file gives at most one robot, and none where it has a fault.
+use Rattle.std.proofs.Common.{◌≡◌, ℕ, zero, suc, ◌<◌, List, [], ◌∷◌, take, Option, None, Some, false, true, inl, inr, sym, ◌∙◌, ap, subst, refl, arith}
+use Rattle.std.specs.Prelude.{Result, Ok, Err, IsOk}
+use Rattle.std.specs.List.{slice_get, AllByRecursion}
+use Rattle.std.proofs.lemmas.Bool.{cases_order}
+use Rattle.rb_flat.specs.Choice.{Each}
+use Rattle.rb_joint.specs.declared.any.AnyJoint.{AnyJoint}
+use Rattle.rb_body.specs.declared.raw.JointRaw.{JointRaw}
+use Rattle.rb_urdf.specs.declared.robot.UrdfJoint.{UrdfJoint}
+use Rattle.rb_urdf.specs.declared.robot.UrdfLink.{UrdfLink}
+use Rattle.rb_urdf.specs.Robot.{Robot, IsRobot}
+use Rattle.rb_tree.specs.declared.faults.TreeFault.{TreeFault}
+use Rattle.rb_tree.specs.declared.order.Stem.{Stem}
+use Rattle.rb_tree.specs.declared.robot.Body.{Body}
+use Rattle.rb_tree.specs.Robot.{Tree}
+use Rattle.rb_tree.specs.Build.{Bears, IsMadeOf, IsBody, IsBuilt, IsRefusedAt, IsRefused, HasConstants, HasConstantFault, HasFault, inertia_made, joint_made}
+use Rattle.rb_tree.proofs.ListLaws.{All-at}
+use Rattle.rb_tree.proofs.OneOrder.{one_order, fault_excludes}
+use Rattle.rb_tree.proofs.OneFault.{one_fault}
+
+one_joint : (robot : Robot) (o : Option ℕ) (a b : UrdfJoint) → Bears robot o a → Bears robot o b → a ≡ b
+one_joint robot None a b p q = p ∙ sym q
+one_joint robot (Some number) a b p q = cc
+
+one_link : (links : List UrdfLink) (k : ℕ) (a b : UrdfLink) → slice_get links k ≡ Some a → slice_get links k ≡ Some b → a ≡ b
+one_link links k a b p q = cc
+
+same_ok : {A : Type 0} (x y : A) → ◌≡◌ {A = Result A TreeFault} (Ok x) (Ok y) → x ≡ y
+same_ok x y h = cc
+
+made_once : (link : UrdfLink) (joint : UrdfJoint) (a b : Body) → IsMadeOf link joint a → IsMadeOf link joint b → a.parent ≡ b.parent → a ≡ b
+made_once link joint a b p q e =
+    let pairs = same_ok (a.joint, a.joint_raw) (b.joint, b.joint_raw) (sym p.model ∙ q.model) in
+    let models = ap (λ (m : AnyJoint × JointRaw). m.0) pairs in
+    let raws = ap (λ (m : AnyJoint × JointRaw). m.1) pairs in
+    let inertias : a.inertia ≡ b.inertia = let h = sym p.inertia ∙ q.inertia in cc in
+    let link_names = p.link_name ∙ sym q.link_name in
+    let joint_names = p.joint_name ∙ sym q.joint_name in
+    let link_raws = p.link_raw ∙ sym q.link_raw in
+    let mimics = p.mimic ∙ sym q.mimic in
+    λ i. record {
+      parent = e i;
+      joint = models i;
+      inertia = inertias i;
+      link_name = link_names i;
+      joint_name = joint_names i;
+      link_raw = link_raws i;
+      joint_raw = raws i;
+      mimic = mimics i;
+    }
+
+one_body : (robot : Robot) (stem : Stem) (a b : Body) → IsBody robot stem a → IsBody robot stem b → a ≡ b
+one_body robot stem a b p q =
+    let l = one_link robot.links stem.link q.link p.link q.pair.link_is p.pair.link_is in
+    let j = one_joint robot stem.joint q.joint p.joint q.pair.joint_is p.pair.joint_is in
+    let L : UrdfLink → Type 0 = λ link. IsMadeOf link q.joint b in
+    let J : UrdfJoint → Type 0 = λ joint. IsMadeOf p.link joint b in
+    made_once p.link p.joint a b p.made (subst J j (subst L l q.made)) (p.parent ∙ sym q.parent)
+
+one_list : {A B : Type 0} (R : A → B → Type 0) → ((x : A) (a b : B) → R x a → R x b → a ≡ b) → (xs : List A) (ys zs : List B) → Each R xs ys → Each R xs zs → ys ≡ zs
+one_list R f [] [] [] p q = refl
+one_list R f [] [] (b ∷ zs) p q = absurd q
+one_list R f [] (a ∷ ys) zs p q = absurd p
+one_list R f (x ∷ xs) [] zs p q = absurd p
+one_list R f (x ∷ xs) (a ∷ ys) [] p q = absurd q
+one_list R f (x ∷ xs) (a ∷ ys) (b ∷ zs) p q =
+    let e = f x a b p.0 q.0 in
+    let es = one_list R f xs ys zs p.1 q.1 in
+    cc
+
+pub built_once : (robot : Robot) (a b : Tree) → IsRobot robot.links robot.joints → IsBuilt robot a → IsBuilt robot b → a ≡ b
+built_once robot a b kept p q =
+    let o = one_order robot q.order p.order kept q.ordered p.ordered in
+    let E : List Stem → Type 0 = λ stems. Each (IsBody robot) stems b.bodies in
+    let bodies = one_list (IsBody robot) (one_body robot) p.order a.bodies b.bodies p.bodies (subst E o q.bodies) in
+    let name = p.name ∙ sym q.name in
+    λ i. record { name = name i; bodies = bodies i }
+
+-- the partner of an item of the first list
+record HasMate {A B : Type 0} (R : A → B → Type 0) (x : A) : Type 0 where
+  mate : B
+  related : R x mate
+
+mate_at : {A B : Type 0} (R : A → B → Type 0) (xs : List A) (ys : List B) (k : ℕ) (x : A) → Each R xs ys → slice_get xs k ≡ Some x → HasMate R x
+mate_at R [] ys k x e h = cc
+mate_at R (a ∷ xs) [] k x e h = absurd e
+mate_at {A = A} R (a ∷ xs) (b ∷ ys) zero x e h =
+    let s : a ≡ x = cc in
+    let Q : A → Type 0 = λ z. R z b in
+    record { mate = b; related = subst Q s e.0 }
+mate_at R (a ∷ xs) (b ∷ ys) (suc k) x e h = mate_at R xs ys k x e.1 h
+
+not_refused : (link : UrdfLink) (joint : UrdfJoint) (body : Body) (fault : TreeFault) → IsMadeOf link joint body → IsRefusedAt link joint fault → ⊥
+not_refused link joint body fault made (inl refused) = let e = made.model in cc
+not_refused link joint body fault made (inr refused) = let e = made.inertia in let h = refused.1 in cc
+
+constants_exclude : (robot : Robot) (fault : TreeFault) (tree : Tree) → IsRobot robot.links robot.joints → HasConstantFault robot fault → IsBuilt robot tree → ⊥
+constants_exclude robot fault tree kept f t =
+    let o = one_order robot t.order f.order kept t.ordered f.ordered in
+    let E : List Stem → Type 0 = λ stems. Each (IsBody robot) stems tree.bodies in
+    let m = mate_at (IsBody robot) f.order tree.bodies f.number f.stem (subst E o t.bodies) f.is in
+    let l = one_link robot.links f.stem.link m.related.link f.refused.link m.related.pair.link_is f.refused.pair.link_is in
+    let j = one_joint robot f.stem.joint m.related.joint f.refused.joint m.related.pair.joint_is f.refused.pair.joint_is in
+    let L : UrdfLink → Type 0 = λ link. IsMadeOf link m.related.joint m.mate in
+    let J : UrdfJoint → Type 0 = λ joint. IsMadeOf f.refused.link joint m.mate in
+    not_refused f.refused.link f.refused.joint m.mate fault (subst J j (subst L l m.related.made)) f.refused.refused
+
+pub faults_exclude : (robot : Robot) (fault : TreeFault) (tree : Tree) → IsRobot robot.links robot.joints → HasFault robot fault → IsBuilt robot tree → ⊥
+faults_exclude robot fault tree kept (inl f) t = fault_excludes robot fault t.order kept f t.ordered t.joints t.few
+faults_exclude robot fault tree kept (inr f) t = constants_exclude robot fault tree kept f t
+
+-- ---- one fault
+slice_get-take : {A : Type 0} (n : ℕ) (xs : List A) (k : ℕ) → k < n → slice_get (take n xs) k ≡ slice_get xs k
+slice_get-take zero xs k h = absurd (omega arith)
+slice_get-take (suc n) [] k h = refl
+slice_get-take (suc n) (x ∷ xs) zero h = refl
+slice_get-take (suc n) (x ∷ xs) (suc k) h = slice_get-take n xs k (omega arith)
+
+-- what has constants is not refused
+made_not_refused : (robot : Robot) (stem : Stem) (body : Body) (fault : TreeFault) → IsBody robot stem body → IsRefused robot stem fault → ⊥
+made_not_refused robot stem body fault b r =
+    let l = one_link robot.links stem.link b.link r.link b.pair.link_is r.pair.link_is in
+    let j = one_joint robot stem.joint b.joint r.joint b.pair.joint_is r.pair.joint_is in
+    let L : UrdfLink → Type 0 = λ link. IsMadeOf link b.joint body in
+    let J : UrdfJoint → Type 0 = λ joint. IsMadeOf r.link joint body in
+    not_refused r.link r.joint body fault (subst J j (subst L l b.made)) r.refused
+
+-- a fault at a body before one with a fault
+earlier : (robot : Robot) (order : List Stem) (i j : ℕ) (stem : Stem) (fault : TreeFault) → i < j → slice_get order i ≡ Some stem → IsRefused robot stem fault → AllByRecursion (HasConstants robot) (take j order) → ⊥
+earlier robot order i j stem fault h is r before =
+    let made = All-at (HasConstants robot) (take j order) i stem before (slice_get-take j order i h ∙ is) in
+    made_not_refused robot stem made.0 fault made.1 r
+
+one_error : {A : Type 0} (r : Result A TreeFault) (x y : TreeFault) → r ≡ Err x → r ≡ Err y → x ≡ y
+one_error r x y p q = cc
+
+error_not_ok : {A : Type 0} (r : Result A TreeFault) (x : TreeFault) → r ≡ Err x → IsOk r → ⊥
+error_not_ok (Ok a) x e h = cc
+error_not_ok (Err y) x e h = let f : false ≡ true = h in cc
+
+refused_once : (link : UrdfLink) (joint : UrdfJoint) (x y : TreeFault) → IsRefusedAt link joint x → IsRefusedAt link joint y → x ≡ y
+refused_once link joint x y (inl p) (inl q) = one_error (joint_made joint) x y p q
+refused_once link joint x y (inl p) (inr q) = absurd (error_not_ok (joint_made joint) x p q.0)
+refused_once link joint x y (inr p) (inl q) = absurd (error_not_ok (joint_made joint) y q p.0)
+refused_once link joint x y (inr p) (inr q) = one_error (inertia_made link) x y p.1 q.1
+
+same_stem : (robot : Robot) (stem : Stem) (x y : TreeFault) → IsRefused robot stem x → IsRefused robot stem y → x ≡ y
+same_stem robot stem x y p q =
+    let l = one_link robot.links stem.link q.link p.link q.pair.link_is p.pair.link_is in
+    let j = one_joint robot stem.joint q.joint p.joint q.pair.joint_is p.pair.joint_is in
+    let L : UrdfLink → Type 0 = λ link. IsRefusedAt link q.joint y in
+    let J : UrdfJoint → Type 0 = λ joint. IsRefusedAt p.link joint y in
+    refused_once p.link p.joint x y p.refused (subst J j (subst L l q.refused))
+
+one_stem : (order : List Stem) (i j : ℕ) (a b : Stem) → i ≡ j → slice_get order i ≡ Some a → slice_get order j ≡ Some b → b ≡ a
+one_stem order i j a b e p q = cc
+
+constant_fault_once : (robot : Robot) (x y : TreeFault) → IsRobot robot.links robot.joints → HasConstantFault robot x → HasConstantFault robot y → x ≡ y
+constant_fault_once robot x y kept p q =
+    let o = one_order robot q.order p.order kept q.ordered p.ordered in
+    let is : slice_get p.order q.number ≡ Some q.stem = rw (← o) q.is in
+    let B : List Stem → Type 0 = λ order. AllByRecursion (HasConstants robot) (take q.number order) in
+    elim (cases_order p.number q.number) [
+      | inl same ↦
+          let e = one_stem p.order p.number q.number p.stem q.stem same p.is is in
+          let R : Stem → Type 0 = λ stem. IsRefused robot stem y in
+          same_stem robot p.stem x y p.refused (subst R e q.refused)
+      | inr apart ↦
+          elim apart [
+            | inl less ↦ absurd (earlier robot p.order p.number q.number p.stem x less p.is p.refused (subst B o q.before))
+            | inr more ↦ absurd (earlier robot p.order q.number p.number q.stem y more is q.refused p.before)
+          ]
+    ]
+
+pub one_fault_in_all : (robot : Robot) (x y : TreeFault) → IsRobot robot.links robot.joints → HasFault robot x → HasFault robot y → x ≡ y
+one_fault_in_all robot x y kept (inl p) (inl q) = one_fault robot x y kept p q
+one_fault_in_all robot x y kept (inl p) (inr q) = absurd (fault_excludes robot x q.order kept p q.ordered q.joints q.few)
+one_fault_in_all robot x y kept (inr p) (inl q) = absurd (fault_excludes robot y p.order kept q p.ordered p.joints p.few)
+one_fault_in_all robot x y kept (inr p) (inr q) = constant_fault_once robot x y kept p q

@@ -1,0 +1,27 @@
+-- Columns so far, and the joint that passes the most.
+use Rattle.std.proofs.Common.{◌≡◌, ◌<◌, ◌≤◌, ◌+◌, ℕ, List, Some, length, take, ap, arith}
+use Rattle.std.specs.List.{sum_by}
+use Rattle.std.proofs.lemmas.List.Sums.{sum_by_more}
+use Rattle.std.proofs.lemmas.Option.{slice_get-get_or}
+use Rattle.rb_urdf.specs.declared.robot.UrdfJoint.{UrdfJoint}
+use Rattle.rb_tree.specs.declared.order.Stem.{Stem}
+use Rattle.rb_tree.specs.Order.{no_stem, bearer_of, columns_of, columns_at, stem_columns}
+use Rattle.rb_tree.specs.Part.{stem_at}
+use Rattle.rb_tree.specs.Faults.{PassColumns}
+
+pub pass_columns : (joints : List UrdfJoint) (stems : List Stem) (i : ℕ) (joint : UrdfJoint) (total more at : ℕ) → i < length stems →
+    bearer_of joints (stem_at stems i).joint ≡ Some joint → at ≡ joint.place → sum_by (stem_columns joints) (take i stems) ≡ total → total ≤ 64 →
+    more ≡ columns_of joint.kind → 64 < total + more → PassColumns joints stems at
+pass_columns joints stems i joint total more at within bears place so_far few more_is passed =
+    let e = sum_by_more (stem_columns joints) stems i no_stem within in
+    let f : stem_columns joints (stem_at stems i) ≡ columns_of joint.kind = ap columns_at bears in
+    record {
+      number = i;
+      stem = stem_at stems i;
+      stem_is = slice_get-get_or stems i no_stem within;
+      joint = joint;
+      bears = bears;
+      place = place;
+      before = omega arith;
+      passed = omega (arith, e, f);
+    }

@@ -1,0 +1,7 @@
+use Rattle.std.proofs.Common.{take}
+use Rattle.rb_flat.specs.Choice.{Each}
+use Rattle.rb_tree.specs.Made.{IsBodyOf}
+use Rattle.rb_tree.proofs.build.bodies_of.Given as goal
+
+abbrev pub invariant-loop-stem : goal.invariant-loop-stem
+invariant-loop-stem l = Each (IsBodyOf l.urdf) (take l.stem-index l.order) l.bodies.items

@@ -1,0 +1,6 @@
+use Rattle.std.proofs.Common.{ℕ, ◌<◌}
+use Rattle.rb_tree.specs.Part.{HasLink}
+use Rattle.rb_tree.proofs.grow.first_apart.Given as goal
+
+abbrev pub invariant-loop-link : goal.invariant-loop-link
+invariant-loop-link l = (link : ℕ) → link < l.link → HasLink l.stems link

@@ -1,0 +1,10 @@
+pub mod Order
+pub mod Part
+pub mod Faults
+pub mod Laws
+pub mod Columns
+pub mod Robot
+pub mod Build
+pub mod Made
+pub mod BuildLaws
+pub mod Upward

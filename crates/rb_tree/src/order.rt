@@ -1,0 +1,41 @@
+ghost use Rattle.std.specs.Prelude.{◌≡◌, ◌⊎◌, ◌≤◌, length, IfOk, IfErr};
+ghost use Rattle.std.specs.List.{All};
+ghost use Rattle.rb_tree.specs.Order.{IsBuilt, IsOrder};
+ghost use Rattle.rb_tree.specs.Faults.{no_memory, HasOrderFault, IsFewInAll};
+
+use crate::faults::{TreeFault, TreeKind, fault};
+use crate::grow::{first_apart, stems_of};
+use crate::roots::{check_parents, root_of};
+use crate::sizes::{check_built, check_columns, check_links};
+use rb_urdf::UrdfRobot;
+use std::alloc::Global;
+
+/// A body in the order: its link, the joint that bears it (none bears the root), both by their numbers from 0 in file order, and the number
+/// of its parent body. Bodies are numbered from 1, and the root's parent is the world, 0.
+#[derive(Clone, Copy, Debug, PartialEq, Eq)]
+pub(crate) struct Stem {
+    pub link: u32,
+    pub joint: Option<u32>,
+    pub parent: u32,
+}
+
+/// The bodies of the robot in their order, from the root.
+pub(crate) fn order_of(alloc: Global, robot: &UrdfRobot) -> Result<Vec<Stem>, TreeFault>
+    ensures ok { IfOk result (λ stems. IsOrder robot.now stems.items) }
+    ensures built { IfOk result (λ stems. All IsBuilt robot.now.joints) }
+    ensures few { IfOk result (λ stems. IsFewInAll robot.now stems.items) }
+    ensures err { IfErr result (λ fault. (fault ≡ no_memory) ⊎ HasOrderFault robot.now fault) }
+{
+    let links = robot.links().as_slice();
+    let joints = robot.joints().as_slice();
+    check_built(joints)?;
+    check_links(links)?;
+    check_parents(joints)?;
+    let root = root_of(robot)?;
+    let stems = stems_of(alloc, joints, links.len(), root)?;
+    if let Some(link) = first_apart(stems.as_slice(), links.len()) {
+        return Err(fault(TreeKind::Cycle, links[link].place));
+    }
+    check_columns(joints, stems.as_slice())?;
+    Ok(stems)
+}

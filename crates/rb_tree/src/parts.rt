@@ -1,0 +1,110 @@
+ghost use Rattle.std.specs.Prelude.{◌≡◌, ◌⊎◌, IfOk, IfErr};
+ghost use Rattle.rb_body.specs.Raw.{HasModel, link_brackets};
+ghost use Rattle.rb_body.specs.Encloses.{EnclosesInertia, EnclosesJoint};
+ghost use Rattle.rb_tree.specs.Order.{columns_of};
+ghost use Rattle.rb_tree.specs.Columns.{own_columns};
+ghost use Rattle.rb_tree.specs.Robot.{IsAxisKept, IsBodyKept};
+ghost use Rattle.rb_tree.specs.Faults.{no_memory as no_memory_fault};
+ghost use Rattle.rb_tree.specs.Build.{kind_of as kind_of_fault, raw_of as raw_of_link, root_joint as root_joint_at, inertia_made as inertia_made_of, joint_made as joint_made_of, IsMadeOf, IsRefusedAt};
+
+use crate::faults::{TreeFault, TreeKind, fault};
+use crate::robot::Body;
+use rb_body::{BodyFault, JointRaw, LinkRaw, inertia_of, joint_of};
+use rb_joint::AnyJoint;
+use rb_num::Iv;
+use rb_spatial::BodyInertia;
+use rb_tags::Text;
+use rb_urdf::{UrdfJoint, UrdfKind, UrdfLink};
+use std::alloc::{AllocError, Global};
+
+fn kind_of(why: BodyFault) -> TreeKind
+    ensures { result ≡ kind_of_fault why }
+{
+    match why {
+        BodyFault::AngleRange => TreeKind::AngleRange,
+        BodyFault::ZeroAxis => TreeKind::ZeroAxis,
+        BodyFault::Size => TreeKind::Size,
+    }
+}
+
+fn raw_of(link: &UrdfLink) -> LinkRaw
+    ensures { result ≡ raw_of_link link.now }
+{
+    LinkRaw {
+        mass: link.mass,
+        com: link.com,
+        rpy: link.rpy,
+        six: link.six,
+    }
+}
+
+#[tactic(auto, unfolding(crate::specs::Build::inertia_made))]
+fn inertia_made(link: &UrdfLink) -> Result<BodyInertia, TreeFault>
+    ensures exact { result ≡ inertia_made_of link.now }
+    ensures encloses { IfOk result (EnclosesInertia (link_brackets (raw_of_link link.now))) }
+{
+    match inertia_of(&raw_of(link)) {
+        Ok(inertia) => Ok(inertia),
+        Err(why) => Err(fault(kind_of(why), link.place)),
+    }
+}
+
+#[tactic(auto, unfolding(crate::specs::Build::joint_made))]
+fn joint_made(joint: &UrdfJoint) -> Result<(AnyJoint, JointRaw), TreeFault>
+    requires { HasModel joint.now.kind }
+    ensures exact { result ≡ joint_made_of joint.now }
+    ensures encloses { IfOk result (λ made. EnclosesJoint made.0 made.1) }
+    ensures kind { IfOk result (λ made. made.1.kind ≡ joint.now.kind) }
+    ensures axis { IfOk result (λ made. IsAxisKept made.1) }
+{
+    match joint_of(joint.kind, joint.xyz, joint.rpy, joint.axis) {
+        Ok(made) => Ok(made),
+        Err(why) => Err(fault(kind_of(why), joint.place)),
+    }
+}
+
+/// The joint that holds the root still at the world, at this place of the file.
+pub(crate) fn root_joint(alloc: Global, place: u64) -> Result<UrdfJoint, AllocError>
+    ensures { IfOk result (λ joint. joint ≡ root_joint_at place) }
+{
+    let zeros = [Iv::ZERO, Iv::ZERO, Iv::ZERO];
+    Ok(UrdfJoint {
+        name: Text::copy(alloc, "root_joint")?,
+        place,
+        kind: UrdfKind::Fixed,
+        parent: 0,
+        child: 0,
+        xyz: zeros,
+        rpy: zeros,
+        axis: zeros,
+        mimic: None,
+    })
+}
+
+/// The body of a link and the joint that bears it, below this parent.
+pub(crate) fn body_of(
+    alloc: Global,
+    parent: u32,
+    joint: &UrdfJoint,
+    link: &UrdfLink,
+) -> Result<Body, TreeFault>
+    requires { HasModel joint.now.kind }
+    ensures parent { IfOk result (λ body. body.parent ≡ parent) }
+    ensures made { IfOk result (IsMadeOf link.now joint.now) }
+    ensures kept { IfOk result IsBodyKept }
+    ensures columns { IfOk result (λ body. own_columns body ≡ columns_of joint.now.kind) }
+    ensures err { IfErr result (λ fault. (fault ≡ no_memory_fault) ⊎ IsRefusedAt link.now joint.now fault) }
+{
+    let (model, joint_raw) = joint_made(joint)?;
+    let inertia = inertia_made(link)?;
+    Ok(Body {
+        parent,
+        joint: model,
+        inertia,
+        link_name: Text::copy(alloc, link.name.as_str())?,
+        joint_name: Text::copy(alloc, joint.name.as_str())?,
+        link_raw: raw_of(link),
+        joint_raw,
+        mimic: None,
+    })
+}

@@ -1,0 +1,285 @@
+ghost use Rattle.std.specs.Prelude.{◌≡◌, ◌<◌, ◌≤◌, ◌+◌, ◌-◌, ◌*◌, IfOk, length, slice_index, EachIndex};
+ghost use Rattle.std.specs.Option.{IsSomeAnd};
+
+use crate::columns::{Start, has_mimic, owners_of, starts_of, ups_of};
+use rb_body::{JointRaw, LinkRaw};
+use rb_joint::AnyJoint;
+use rb_num::Iv;
+use rb_spatial::BodyInertia;
+use rb_tags::Text;
+use std::alloc::{AllocError, Global};
+use std::marker::Model;
+
+/// That a joint follows that of another body: its entry is `multiplier` times the other's, plus `offset`.
+#[derive(Clone, Copy, Debug, PartialEq, Eq)]
+pub struct Mimic {
+    /// The number of the other body.
+    pub master: u32,
+    pub multiplier: Iv,
+    pub offset: Iv,
+}
+
+/// A body: the number of its parent, the joint that bears it, its inertia, and the names and the brackets of its link and its joint.
+#[derive(Debug, Drop)]
+pub struct Body {
+    pub parent: u32,
+    pub joint: AnyJoint,
+    pub inertia: BodyInertia,
+    pub link_name: Text,
+    pub joint_name: Text,
+    pub link_raw: LinkRaw,
+    pub joint_raw: JointRaw,
+    pub mimic: Option<Mimic>,
+}
+
+/// A tree of 1 to 256 bodies with at most 64 columns. Bodies and columns are numbered from 1; body 0 is the world. The parent of a body has
+/// a smaller number (Featherstone, Rigid Body Dynamics Algorithms, chapter 4).
+#[derive(Debug, Drop)]
+pub struct Robot {
+    name: Text,
+    bodies: Vec<Body>,
+    starts: Vec<Start>,
+    owners: Vec<u32>,
+    ups: Vec<u32>,
+}
+
+impl Model for Robot {
+    ghost use Rattle.rb_tree.specs.Robot.{Tree, IsRobot};
+
+    ghost Value = { Tree };
+
+    ghost view = { λ r. record { name = r.name; bodies = r.bodies.items } };
+
+    ghost invariant = { λ r. IsRobot r.bodies.items r.starts.items r.owners.items r.ups.items };
+}
+
+impl Robot {
+    ghost use Rattle.rb_body.specs.Raw.{link_brackets};
+    ghost use Rattle.rb_body.specs.Encloses.{EnclosesInertia, EnclosesJoint};
+    ghost use Rattle.rb_tree.specs.Columns.{body_at, full_at, columns_at, entries_at, body_of_column, up_of, first_full, first_column, first_entry, full_count, column_count, entry_count, has_mimic as has_mimic_in, start_behind, leader_at, AreUps};
+    ghost use Rattle.rb_tree.specs.Robot.{HasBody, HasColumn, IsAxisKept, IsBodyKept, AreBodies};
+
+    /// The robot of these bodies.
+    pub(crate) fn new(alloc: Global, name: Text, bodies: Vec<Body>) -> Result<Robot, AllocError>
+        requires { AreBodies bodies.items }
+        ensures { IfOk result (λ robot. robot ≡ record { name = name; bodies = bodies.items }) }
+    {
+        let starts = starts_of(alloc, bodies.as_slice())?;
+        let owners = owners_of(alloc, bodies.as_slice())?;
+        let ups = ups_of(
+            alloc,
+            bodies.as_slice(),
+            starts.as_slice(),
+            owners.as_slice(),
+        )?;
+        Ok(Robot {
+            name,
+            bodies,
+            starts,
+            owners,
+            ups,
+        })
+    }
+
+    /// Its name.
+    pub fn name(&self) -> &[u8]
+        ensures { result.now ≡ self.now.name }
+    {
+        self.name.as_str().as_bytes()
+    }
+
+    /// How many bodies it has.
+    pub fn bodies(&self) -> u32
+        ensures count { result ≡ length self.now.bodies }
+        ensures some { 1 ≤ result }
+        ensures few { result ≤ 256 }
+    {
+        self.bodies.len() as u32
+    }
+
+    fn body(&self, i: u32) -> &Body
+        requires { HasBody self.now i }
+        ensures is { body_at self.now.bodies i ≡ Some result.now }
+        ensures kept { IsBodyKept result.now }
+        ensures above { result.now.parent < i }
+    {
+        &self.bodies[i as usize - 1]
+    }
+
+    /// The number of the body's parent, 0 for the world.
+    pub fn parent(&self, i: u32) -> u32
+        requires { HasBody self.now i }
+        ensures parent { IsSomeAnd (body_at self.now.bodies i) (λ body. body.parent ≡ result) }
+        ensures above { result < i }
+    {
+        self.body(i).parent
+    }
+
+    /// The joint that bears the body, which encloses what its brackets allow.
+    pub fn joint(&self, i: u32) -> &AnyJoint
+        requires { HasBody self.now i }
+        ensures joint { IsSomeAnd (body_at self.now.bodies i) (λ body. body.joint ≡ result.now) }
+        ensures encloses { IsSomeAnd (body_at self.now.bodies i) (λ body. EnclosesJoint result.now body.joint_raw) }
+    {
+        &self.body(i).joint
+    }
+
+    /// The inertia of the body, which encloses what its link's brackets allow: the mass in kilograms, the first moment in kg m, and the
+    /// inertia about the body's origin in kg m².
+    pub fn inertia(&self, i: u32) -> &BodyInertia
+        requires { HasBody self.now i }
+        ensures inertia { IsSomeAnd (body_at self.now.bodies i) (λ body. body.inertia ≡ result.now) }
+        ensures encloses { IsSomeAnd (body_at self.now.bodies i) (λ body. EnclosesInertia (link_brackets body.link_raw) result.now) }
+    {
+        &self.body(i).inertia
+    }
+
+    /// The name of the body's link.
+    pub fn link_name(&self, i: u32) -> &[u8]
+        requires { HasBody self.now i }
+        ensures { IsSomeAnd (body_at self.now.bodies i) (λ body. body.link_name ≡ result.now) }
+    {
+        self.body(i).link_name.as_str().as_bytes()
+    }
+
+    /// The name of the joint that bears the body: `root_joint` for body 1.
+    pub fn joint_name(&self, i: u32) -> &[u8]
+        requires { HasBody self.now i }
+        ensures { IsSomeAnd (body_at self.now.bodies i) (λ body. body.joint_name ≡ result.now) }
+    {
+        self.body(i).joint_name.as_str().as_bytes()
+    }
+
+    /// The brackets of the body's link.
+    pub fn link_raw(&self, i: u32) -> &LinkRaw
+        requires { HasBody self.now i }
+        ensures { IsSomeAnd (body_at self.now.bodies i) (λ body. body.link_raw ≡ result.now) }
+    {
+        &self.body(i).link_raw
+    }
+
+    /// The brackets of the body's joint, and the kind that it is taken as. Axis and factor are zero but for kinds that have an axis.
+    pub fn joint_raw(&self, i: u32) -> &JointRaw
+        requires { HasBody self.now i }
+        ensures axis { IsAxisKept result.now }
+        ensures raw { IsSomeAnd (body_at self.now.bodies i) (λ body. body.joint_raw ≡ result.now) }
+    {
+        &self.body(i).joint_raw
+    }
+
+    /// That the body's joint follows another, where it does.
+    pub fn mimic_of(&self, i: u32) -> Option<Mimic>
+        requires { HasBody self.now i }
+        ensures { IsSomeAnd (body_at self.now.bodies i) (λ body. body.mimic ≡ result) }
+    {
+        self.body(i).mimic
+    }
+
+    /// Whether some joint follows another.
+    pub fn has_mimic(&self) -> bool
+        ensures { result ≡ has_mimic_in self.now.bodies }
+    {
+        has_mimic(self.bodies.as_slice())
+    }
+
+    /// The start behind the last body.
+    fn end(&self) -> Start
+        ensures full { result.full ≡ 1 + full_count self.now.bodies }
+        ensures column { result.column ≡ 1 + column_count self.now.bodies }
+        ensures entry { result.entry ≡ entry_count self.now.bodies }
+        ensures few { result.column ≤ 65 }
+        ensures few_entries { result.entry ≤ 7 * 256 }
+    {
+        self.starts[self.bodies.len()]
+    }
+
+    /// How many numbers a state has for the position: the entries of all joints that follow no other.
+    pub fn nq(&self) -> u32
+        ensures { result ≡ entry_count self.now.bodies }
+    {
+        self.end().entry as u32
+    }
+
+    /// How many columns it has: those of all joints that follow no other.
+    pub fn nv(&self) -> u32
+        ensures count { result ≡ column_count self.now.bodies }
+        ensures few { result ≤ 64 }
+    {
+        self.end().column - 1
+    }
+
+    /// How many full columns it has: those of all joints.
+    pub fn full(&self) -> u32
+        ensures { result ≡ full_count self.now.bodies }
+    {
+        self.end().full - 1
+    }
+
+    /// The number of the body's first full column, or of the one that the next would have.
+    pub fn first_full(&self, i: u32) -> u32
+        requires { HasBody self.now i }
+        ensures exact { result ≡ first_full self.now.bodies i }
+        ensures within { result + full_at self.now.bodies i ≤ full_count self.now.bodies + 1 }
+    {
+        self.starts[i as usize - 1].full
+    }
+
+    /// Where the columns and entries of the body begin that the body moves by: of a mimic, its master.
+    fn start(&self, i: u32) -> Start
+        requires { HasBody self.now i }
+        ensures exact { result ≡ start_behind self.now.bodies (leader_at self.now.bodies i - 1) }
+        ensures there { HasBody self.now (leader_at self.now.bodies i) }
+    {
+        let leader = match self.body(i).mimic {
+            None => i,
+            Some(mimic) => mimic.master,
+        };
+        self.starts[leader as usize - 1]
+    }
+
+    /// The number of the body's first column, of a mimic that of its master, or the one that the next would have.
+    pub fn first_column(&self, i: u32) -> u32
+        requires { HasBody self.now i }
+        ensures exact { result ≡ first_column self.now.bodies i }
+        ensures within { result + columns_at self.now.bodies (leader_at self.now.bodies i) ≤ column_count self.now.bodies + 1 }
+    {
+        self.start(i).column
+    }
+
+    /// The place from 0 of the body's first entry in a state, of a mimic that of its master, or the one that the next would have.
+    pub fn first_q(&self, i: u32) -> usize
+        requires { HasBody self.now i }
+        ensures exact { result ≡ first_entry self.now.bodies i }
+        ensures within { result + entries_at self.now.bodies (leader_at self.now.bodies i) ≤ entry_count self.now.bodies }
+    {
+        self.start(i).entry
+    }
+
+    /// The body of the joint of a column.
+    pub fn column_body(&self, c: u32) -> u32
+        requires { HasColumn self.now c }
+        ensures exact { result ≡ body_of_column self.now.bodies c }
+        ensures there { HasBody self.now result }
+        ensures within { (first_column self.now.bodies result ≤ c) × (c < first_column self.now.bodies result + columns_at self.now.bodies result) }
+    {
+        self.owners[c as usize - 1]
+    }
+
+    /// The next column upward, or 0: the one before it at the same joint, else the last one of the nearest body above that has columns. In
+    /// a robot with a mimic it is the one before.
+    pub fn up(&self, c: u32) -> u32
+        requires { HasColumn self.now c }
+        ensures exact { result ≡ up_of self.now.bodies c }
+        ensures above { result < c }
+    {
+        self.ups[c as usize - 1]
+    }
+
+    /// The next columns upward, from column 1 on.
+    pub fn ups(&self) -> &[u32]
+        ensures exact { AreUps self.now.bodies result.now }
+        ensures above { EachIndex result.now (λ k. slice_index result.now k ≤ k) }
+    {
+        self.ups.as_slice()
+    }
+}
