@@ -7,18 +7,19 @@ use Rattle.rb_frac.proofs.Ring.{expr, var}
 use Rattle.rb_frac.proofs.Hom.{frac_ring}
 use Rattle.rb_num.specs.Arith.{fractions}
 use Rattle.rb_num.proofs.Bridges.{expressions}
-use Rattle.rb_spatial.specs.Tables.{Table, Symmetric, Body}
-use Rattle.rb_spatial.specs.Relate.{Bodies}
-use Rattle.rb_spatial.specs.Rules.{row_mul, product, upper_product}
+use Rattle.rb_frac.specs.Tables.{Table, Symmetric, table_product, table_sum, table_scaled, outer, congruent, upper}
+use Rattle.rb_frac.specs.Spatial.{BodyInertia, BodyInertias}
+use Rattle.rb_spatial.specs.Carrying.{row_mul, product, upper_product}
 use Rattle.rb_spatial.proofs.Vars.{vector, rows, symmetric, of_vector, of_rows, of_symmetric, at}
 use Rattle.rb_flat.specs.Tables as Flat
-use Rattle.rb_flat.specs.Turns.{table_product, table_sum, table_scaled, roll_pitch_yaw}
-use Rattle.rb_flat.specs.Body.{outer, congruent, parallel_axes, about_centre, first_moment, about_origin}
+use Rattle.rb_flat.specs.Turns.{roll_pitch_yaw}
+use Rattle.rb_frac.specs.Mechanics.{parallel_axes}
+use Rattle.rb_flat.specs.Body.{about_centre, first_moment, about_origin}
 use Rattle.rb_joint.specs.Tables.{table}
 use Rattle.rb_joint.specs.Tables as Plain
 use Rattle.rb_body.specs.Rules.{scaled, turned, moved, body}
 use Rattle.rb_body.specs.Tables as Rules
-use Rattle.rb_body.specs.Tables.{flat, upper}
+use Rattle.rb_body.specs.Tables.{flat}
 use Rattle.rb_body.specs.Laws.{BodyIsRelation, ScaledIsMultiple}
 
 pub scaled-multiple : ScaledIsMultiple
@@ -30,14 +31,14 @@ scaled-multiple k v =
     record { x = frac_ring (at l) got.x want.x refl; y = frac_ring (at l) got.y want.y refl; z = frac_ring (at l) got.z want.z refl }
 
 -- of any rotation
-about : Table Frac → Frac → V3 Frac → Symmetric Frac → Body Frac
+about : Table Frac → Frac → V3 Frac → Symmetric Frac → BodyInertia Frac
 about r m c j = record {
   mass = m;
   first = vscale fracs m c;
   six = upper (table_sum fracs (congruent fracs (Plain.rows r) (Flat.full (flat j))) (parallel_axes fracs m c));
 }
 
-body-about : (r : Table Frac) (m : Frac) (c : V3 Frac) (j : Symmetric Frac) → Bodies Same (body fractions r m c j) (about r m c j)
+body-about : (r : Table Frac) (m : Frac) (c : V3 Frac) (j : Symmetric Frac) → BodyInertias Same (body fractions r m c j) (about r m c j)
 unfolding about body scaled turned moved product row_mul upper_product dot congruent parallel_axes outer table_product table_sum table_scaled vadd vscale dot3
 body-about r m c j =
     let l = m ∷ of_vector c (of_symmetric j (of_rows r [])) in

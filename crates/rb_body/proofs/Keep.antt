@@ -2,8 +2,8 @@
 use Rattle.rb_frac.specs.Ops.{V3}
 use Rattle.rb_num.specs.Arith.{Arith}
 use Rattle.rb_num.proofs.Relates.{Relates, Met, dot_met, ret_met, then_met}
-use Rattle.rb_spatial.specs.Tables.{Table, Symmetric}
-use Rattle.rb_spatial.specs.Relate.{Vectors, Tables, Symmetrics, Bodies}
+use Rattle.rb_frac.specs.Tables.{Table, Symmetric, Vectors, Tables, Symmetrics}
+use Rattle.rb_frac.specs.Spatial.{BodyInertias}
 use Rattle.rb_spatial.proofs.Keep.{three_met, six_met, full_rel, product_met, upper_product_met}
 use Rattle.rb_body.specs.Rules.{scaled, turned, moved, body}
 
@@ -20,7 +20,7 @@ module _ {R Q : Arith} (K : Relates R Q) where
   unfolding moved
   moved_met hj hh hc = search (six_met K, dot_met K, K.neg, K.one) depth 9
 
-  pub body_met : {r : Table R.N} {m : R.N} {c : V3 R.N} {j : Symmetric R.N} {r' : Table Q.N} {m' : Q.N} {c' : V3 Q.N} {j' : Symmetric Q.N} → Tables K.rel r r' → K.rel m m' → Vectors K.rel c c' → Symmetrics K.rel j j' → Met K (Bodies K.rel) (body R r m c j) (body Q r' m' c' j')
+  pub body_met : {r : Table R.N} {m : R.N} {c : V3 R.N} {j : Symmetric R.N} {r' : Table Q.N} {m' : Q.N} {c' : V3 Q.N} {j' : Symmetric Q.N} → Tables K.rel r r' → K.rel m m' → Vectors K.rel c c' → Symmetrics K.rel j j' → Met K (BodyInertias K.rel) (body R r m c j) (body Q r' m' c' j')
   unfolding body
   body_met hr hm hc hj =
       then_met K (turned_met hr hj) (λ _ _ ht.

@@ -8,18 +8,19 @@ use Rattle.rb_num.specs.Fraction.{LiesIn}
 use Rattle.rb_num.specs.Arith.{intervals}
 use Rattle.rb_num.proofs.Same.{lies_in_same}
 use Rattle.rb_num.proofs.Bridges.{to_intervals, ok_met}
-use Rattle.rb_spatial.specs.Tables.{Pose, Body}
-use Rattle.rb_spatial.specs.Relate.{Vectors, Tables, Symmetrics, Bodies}
+use Rattle.rb_frac.specs.Spatial.{Frame, BodyInertia, BodyInertias}
+use Rattle.rb_frac.specs.Tables.{Vectors, Tables, Symmetrics}
 use Rattle.rb_flat.specs.Tables as Flat
 use Rattle.rb_flat.specs.Turns.{roll_pitch_yaw}
 use Rattle.rb_flat.specs.Joint.{JointChoice, FrameHasTurns, chosen_frame}
 use Rattle.rb_flat.specs.Body.{BodyChoice}
-use Rattle.rb_flat.specs.Choice.{VectorLies, SixLie, LinkBrackets, LinkChosen}
+use Rattle.rb_flat.specs.Choice.{LinkBrackets, LinkChosen}
 use Rattle.rb_joint.specs.Tables.{table}
 use Rattle.rb_joint.specs.Models.{frame_by}
 use Rattle.rb_joint.proofs.Choices.{frame_answer}
 use Rattle.rb_body.specs.declared.faults.BodyFault.{BodyFault}
-use Rattle.rb_body.specs.Faults.{of_frame, of_number, next, step}
+use Rattle.rb_body.specs.Faults.{of_frame, of_number, step}
+use Rattle.rb_result.specs.Steps.{◌>>=◌}
 use Rattle.rb_body.specs.Rules.{body}
 use Rattle.rb_body.specs.Tables.{symmetric}
 use Rattle.rb_body.specs.Constants.{inertia_by}
@@ -44,16 +45,16 @@ step_is g (Ok y) x e = cc
 step_is g (Err d) x e = cc
 
 -- ---- brackets
-pub vector_lies : {u : V3 Frac} {v : V3 Interval} → VectorLies u v → Vectors LiesIn u v
+pub vector_lies : {u : V3 Frac} {v : V3 Interval} → Vectors u v → Vectors LiesIn u v
 vector_lies h = record { x = h.x; y = h.y; z = h.z }
 
-six_lies : {j : Flat.Symmetric Frac} {v : Flat.Symmetric Interval} → SixLie j v → Symmetrics LiesIn (symmetric j) (symmetric v)
+six_lies : {j : Flat.Symmetric Frac} {v : Flat.Symmetric Interval} → Symmetrics j v → Symmetrics LiesIn (symmetric j) (symmetric v)
 six_lies h = record { xx = h.xx; xy = h.xy; xz = h.xz; yy = h.yy; yz = h.yz; zz = h.zz }
 
 pub vectors_same : {u v : V3 Frac} {w : V3 Interval} → Vectors Same u v → Vectors LiesIn u w → Vectors LiesIn v w
 vectors_same s h = record { x = lies_in_same _ _ _ s.x h.x; y = lies_in_same _ _ _ s.y h.y; z = lies_in_same _ _ _ s.z h.z }
 
-bodies_same : {u v : Body Frac} {w : Body Interval} → Bodies Same u v → Bodies LiesIn u w → Bodies LiesIn v w
+bodies_same : {u v : BodyInertia Frac} {w : BodyInertia Interval} → BodyInertias Same u v → BodyInertias LiesIn u w → BodyInertias LiesIn v w
 bodies_same s h = record {
   mass = lies_in_same _ _ _ s.mass h.mass;
   first = vectors_same s.first h.first;
@@ -82,7 +83,7 @@ framed c = record {
   turn = c.roll;
 }
 
-rotation_lies : (l : LinkBrackets) (f : Pose Interval) → frame_by l.centre l.rpy ≡ Ok f → (c : BodyChoice) → LinkChosen c l → Tables LiesIn (table (roll_pitch_yaw fracs c.roll c.pitch c.yaw)) f.rot
+rotation_lies : (l : LinkBrackets) (f : Frame Interval) → frame_by l.centre l.rpy ≡ Ok f → (c : BodyChoice) → LinkChosen c l → Tables LiesIn (table (roll_pitch_yaw fracs c.roll c.pitch c.yaw)) f.rot
 unfolding framed chosen_frame
 rotation_lies l f e c h =
     let turns : FrameHasTurns (framed c) = record { roll = h.turns.roll; pitch = h.turns.pitch; yaw = h.turns.yaw } in
@@ -97,5 +98,5 @@ inertia_encloses l =
           bodies_same (body-relation c) (ok_met k (body_met to_intervals (rotation_lies l f (step_is of_frame _ f e) c h) h.mass (vector_lies h.centre) (six_lies h.six)));
     }))
 
-pub inertia_answer : (l : LinkBrackets) (i : Body Interval) → inertia_by l ≡ Ok i → EnclosesInertia l i
+pub inertia_answer : (l : LinkBrackets) (i : BodyInertia Interval) → inertia_by l ≡ Ok i → EnclosesInertia l i
 inertia_answer l i e = IfOk-at_ok _ e (inertia_encloses l)

@@ -6,7 +6,8 @@ use Rattle.rb_num.specs.declared.interval.NumFault.{NumFault}
 use Rattle.rb_num.specs.Interval.{Interval}
 use Rattle.rb_num.specs.Arith.{intervals}
 use Rattle.rb_num.specs.Quotient.{HasZero}
-use Rattle.rb_spatial.specs.Tables.{Pose, Body, vector_of}
+use Rattle.rb_frac.specs.Spatial.{Frame, BodyInertia}
+use Rattle.rb_spatial.specs.Vectors.{vector_of}
 use Rattle.rb_trig.specs.declared.axis.AxisFault.{AxisFault}
 use Rattle.rb_trig.specs.declared.axis.AxisFault.TheVariants as Axis
 use Rattle.rb_trig.specs.Axis.{AxisFits, squared_length, unit_scale_of}
@@ -23,7 +24,8 @@ use Rattle.rb_body.specs.declared.faults.BodyFault.TheVariants.{AngleRange, Zero
 use Rattle.rb_urdf.specs.declared.robot.UrdfKind.{UrdfKind}
 use Rattle.rb_urdf.specs.declared.robot.UrdfKind.TheVariants.{Fixed, Revolute, Prismatic, Continuous, Planar, Floating}
 use Rattle.rb_body.specs.declared.raw.JointRaw.{JointRaw}
-use Rattle.rb_body.specs.Faults.{of_frame, of_axis, of_number, next, step}
+use Rattle.rb_body.specs.Faults.{of_frame, of_axis, of_number, step}
+use Rattle.rb_result.specs.Steps.{◌>>=◌}
 use Rattle.rb_body.specs.Raw.{HasModel, HasAxis}
 use Rattle.rb_body.specs.Rules.{scaled, body}
 use Rattle.rb_body.specs.Tables.{symmetric}
@@ -41,23 +43,23 @@ next_refused e (Ok x) g h = (λ k. absurd (h x k), λ k. cc)
 next_refused e (Err d) g h = (λ k. cc, λ k. cc)
 
 -- ---- frames
-framed_range : {B : Type 0} (N : Type 0) (r : Result (Pose Interval) JointFault) (g : Pose Interval → Result B BodyFault) → ((f : Pose Interval) → g f ≡ Err AngleRange → ⊥) → (r ≡ Err Frame.Range) ↔ N → (next (step of_frame r) g ≡ Err AngleRange) ↔ N
+framed_range : {B : Type 0} (N : Type 0) (r : Result (Frame Interval) JointFault) (g : Frame Interval → Result B BodyFault) → ((f : Frame Interval) → g f ≡ Err AngleRange → ⊥) → (r ≡ Err Frame.Range) ↔ N → (next (step of_frame r) g ≡ Err AngleRange) ↔ N
 framed_range N (Ok f) g h i = (λ k. absurd (h f k), λ n. let e = i.1 n in cc)
 framed_range N (Err Frame.Range) g h i = (λ k. i.0 refl, λ n. refl)
 framed_range N (Err Frame.Size) g h i = (λ k. cc, λ n. let e = i.1 n in cc)
 
-framed_axis : {B : Type 0} (r : Result (Pose Interval) JointFault) (g : Pose Interval → Result B BodyFault) → next (step of_frame r) g ≡ Err ZeroAxis → (f : Pose Interval) × (r ≡ Ok f) × (g f ≡ Err ZeroAxis)
+framed_axis : {B : Type 0} (r : Result (Frame Interval) JointFault) (g : Frame Interval → Result B BodyFault) → next (step of_frame r) g ≡ Err ZeroAxis → (f : Frame Interval) × (r ≡ Ok f) × (g f ≡ Err ZeroAxis)
 framed_axis (Ok f) g h = (f, refl, h)
 framed_axis (Err Frame.Range) g h = cc
 framed_axis (Err Frame.Size) g h = cc
 
 -- ---- links
-pub link_range : (l : LinkBrackets) (r : Result (Body Interval) BodyFault) → r ≡ inertia_by l → (r ≡ Err AngleRange) ↔ (¬ AreAngles l.rpy)
+pub link_range : (l : LinkBrackets) (r : Result (BodyInertia Interval) BodyFault) → r ≡ inertia_by l → (r ≡ Err AngleRange) ↔ (¬ AreAngles l.rpy)
 unfolding inertia_by
 link_range l r e =
     rw e (framed_range _ (frame_by l.centre l.rpy) _ (λ f h. let s = sized (body intervals f.rot l.mass l.centre (symmetric l.six)) _ h in cc) (frame_range l.centre l.rpy _ refl))
 
-pub link_axis : (l : LinkBrackets) (r : Result (Body Interval) BodyFault) → r ≡ inertia_by l → r ≡ Err ZeroAxis → ⊥
+pub link_axis : (l : LinkBrackets) (r : Result (BodyInertia Interval) BodyFault) → r ≡ inertia_by l → r ≡ Err ZeroAxis → ⊥
 unfolding inertia_by
 link_axis l r e h =
     let k = framed_axis (frame_by l.centre l.rpy) _ (rw e at h) in
@@ -100,7 +102,7 @@ abbrev Made : Type 0
 Made = Result (AnyJoint × JointRaw) BodyFault
 
 -- a hinge or a slider is refused as its axis is, but for `Size`
-revolute_refused : (f : Pose Interval) (xyz rpy axis : List Interval) (e : BodyFault) → (e ≡ Size → ⊥) → (revolute_by f xyz rpy axis ≡ Err e) ↔ (axis_by (vector_of axis) ≡ Err e)
+revolute_refused : (f : Frame Interval) (xyz rpy axis : List Interval) (e : BodyFault) → (e ≡ Size → ⊥) → (revolute_by f xyz rpy axis ≡ Err e) ↔ (axis_by (vector_of axis) ≡ Err e)
 unfolding revolute_by
 revolute_refused f xyz rpy axis e n = next_refused e (axis_by (vector_of axis)) _ (λ a h. n (sized_next (axial_by f a.1) _ h))
   where
@@ -108,11 +110,11 @@ revolute_refused f xyz rpy axis e n = next_refused e (axis_by (vector_of axis)) 
     sized_next (Ok x) g h = cc
     sized_next (Err d) g h = cc
 
-prismatic_refused : (f : Pose Interval) (xyz rpy axis : List Interval) (e : BodyFault) → (prismatic_by f xyz rpy axis ≡ Err e) ↔ (axis_by (vector_of axis) ≡ Err e)
+prismatic_refused : (f : Frame Interval) (xyz rpy axis : List Interval) (e : BodyFault) → (prismatic_by f xyz rpy axis ≡ Err e) ↔ (axis_by (vector_of axis) ≡ Err e)
 unfolding prismatic_by
 prismatic_refused f xyz rpy axis e = next_refused e (axis_by (vector_of axis)) _ (λ a h. cc)
 
-no_range : (kind : UrdfKind) (f : Pose Interval) (xyz rpy axis : List Interval) → joint_in kind f xyz rpy axis ≡ Err AngleRange → ⊥
+no_range : (kind : UrdfKind) (f : Frame Interval) (xyz rpy axis : List Interval) → joint_in kind f xyz rpy axis ≡ Err AngleRange → ⊥
 no_range Fixed f xyz rpy axis h = cc
 no_range Revolute f xyz rpy axis h = axis_range _ ((revolute_refused f xyz rpy axis AngleRange (λ e. cc)).0 h)
 no_range Prismatic f xyz rpy axis h = axis_range _ ((prismatic_refused f xyz rpy axis AngleRange).0 h)
@@ -125,7 +127,7 @@ unfolding joint_by
 joint_range kind xyz rpy axis r e =
     rw e (framed_range _ (frame_by (vector_of xyz) (vector_of rpy)) _ (λ f h. no_range kind f xyz rpy axis h) (frame_range (vector_of xyz) (vector_of rpy) _ refl))
 
-in_zero : (kind : UrdfKind) (f : Pose Interval) (xyz rpy axis : List Interval) → HasModel kind → (joint_in kind f xyz rpy axis ≡ Err ZeroAxis) ↔ (HasAxis kind × MayBeZero (vector_of axis))
+in_zero : (kind : UrdfKind) (f : Frame Interval) (xyz rpy axis : List Interval) → HasModel kind → (joint_in kind f xyz rpy axis ≡ Err ZeroAxis) ↔ (HasAxis kind × MayBeZero (vector_of axis))
 in_zero Fixed f xyz rpy axis m = (λ h. cc, λ z. absurd z.0)
 in_zero Revolute f xyz rpy axis m =
     let r = revolute_refused f xyz rpy axis ZeroAxis (λ e. cc) in
@@ -150,6 +152,6 @@ joint_zero kind xyz rpy axis r m e = rw e (to, from)
     from : IsZeroAxis kind (vector_of xyz) (vector_of rpy) (vector_of axis) → next (step of_frame (frame_by (vector_of xyz) (vector_of rpy))) (λ f. joint_in kind f xyz rpy axis) ≡ Err ZeroAxis
     from z = go (frame_by (vector_of xyz) (vector_of rpy)) z.frame
       where
-        go : (s : Result (Pose Interval) JointFault) → IsOk s → next (step of_frame s) (λ f. joint_in kind f xyz rpy axis) ≡ Err ZeroAxis
+        go : (s : Result (Frame Interval) JointFault) → IsOk s → next (step of_frame s) (λ f. joint_in kind f xyz rpy axis) ≡ Err ZeroAxis
         go (Ok f) i = (in_zero kind f xyz rpy axis m).1 (z.needed, (z.fits, z.zero))
         go (Err d) i = cc

@@ -4,7 +4,8 @@ use Rattle.rb_frac.specs.Ops.{V3}
 use Rattle.rb_num.specs.Interval.{Interval}
 use Rattle.rb_num.specs.Arith.{intervals}
 use Rattle.rb_num.specs.Quotient.{HasZero}
-use Rattle.rb_spatial.specs.Tables.{Pose, Body, none, vector_of}
+use Rattle.rb_frac.specs.Spatial.{Frame, BodyInertia}
+use Rattle.rb_spatial.specs.Vectors.{none, vector_of}
 use Rattle.rb_trig.specs.Axis.{AxisFits, MakesUnit, squared_length, unit_scale_of}
 use Rattle.rb_flat.specs.Choice.{LinkBrackets}
 use Rattle.rb_joint.specs.declared.any.AnyJoint.{AnyJoint}
@@ -16,12 +17,13 @@ use Rattle.rb_urdf.specs.declared.robot.UrdfKind.{UrdfKind}
 use Rattle.rb_urdf.specs.declared.robot.UrdfKind.TheVariants.{Fixed, Revolute, Prismatic}
 use Rattle.rb_body.specs.declared.raw.JointRaw.{JointRaw}
 use Rattle.rb_body.specs.Tables.{symmetric}
-use Rattle.rb_body.specs.Faults.{of_frame, of_axis, of_number, next, step}
+use Rattle.rb_body.specs.Faults.{of_frame, of_axis, of_number, step}
+use Rattle.rb_result.specs.Steps.{◌>>=◌}
 use Rattle.rb_body.specs.Raw.{HasAxis}
 use Rattle.rb_body.specs.Rules.{scaled, body}
 
 -- ---- links
-unfoldable pub inertia_by : LinkBrackets → Result (Body Interval) BodyFault
+unfoldable pub inertia_by : LinkBrackets → Result (BodyInertia Interval) BodyFault
 inertia_by l =
     next (step of_frame (frame_by l.centre l.rpy)) (λ f. step of_number (body intervals f.rot l.mass l.centre (symmetric l.six)))
 
@@ -41,20 +43,20 @@ Answer = Result (AnyJoint × JointRaw) BodyFault
 abbrev pub raw : UrdfKind → List Interval → List Interval → List Interval → Interval → JointRaw
 raw kind xyz rpy axis k = record { kind = kind; xyz = xyz; rpy = rpy; axis = axis; factor = k }
 
-unfoldable pub fixed_by : Pose Interval → List Interval → List Interval → AnyJoint × JointRaw
+unfoldable pub fixed_by : Frame Interval → List Interval → List Interval → AnyJoint × JointRaw
 fixed_by f xyz rpy = (Variant.Fixed (record { frame = f }), raw Fixed xyz rpy no_axis none)
 
-unfoldable pub revolute_by : Pose Interval → List Interval → List Interval → List Interval → Answer
+unfoldable pub revolute_by : Frame Interval → List Interval → List Interval → List Interval → Answer
 revolute_by f xyz rpy axis =
     next (axis_by (vector_of axis)) (λ a.
     next (step of_number (axial_by f a.1)) (λ m. Ok (Variant.Revolute m, raw Revolute xyz rpy axis a.0)))
 
-unfoldable pub prismatic_by : Pose Interval → List Interval → List Interval → List Interval → Answer
+unfoldable pub prismatic_by : Frame Interval → List Interval → List Interval → List Interval → Answer
 prismatic_by f xyz rpy axis =
     next (axis_by (vector_of axis)) (λ a. Ok (Variant.Prismatic (record { frame = f; axis = a.1 }), raw Prismatic xyz rpy axis a.0))
 
 -- in the frame; a kind without a model is asked for by no call
-abbrev pub joint_in : UrdfKind → Pose Interval → List Interval → List Interval → List Interval → Answer
+abbrev pub joint_in : UrdfKind → Frame Interval → List Interval → List Interval → List Interval → Answer
 joint_in Fixed f xyz rpy axis = Ok (fixed_by f xyz rpy)
 joint_in Revolute f xyz rpy axis = revolute_by f xyz rpy axis
 joint_in Prismatic f xyz rpy axis = prismatic_by f xyz rpy axis

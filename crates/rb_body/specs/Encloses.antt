@@ -2,8 +2,7 @@
 use Rattle.std.specs.Prelude.{◌≡◌, ℕ, Ok, List}
 use Rattle.rb_num.specs.Interval.{Interval}
 use Rattle.rb_num.specs.Fraction.{LiesIn}
-use Rattle.rb_spatial.specs.Tables.{Body, Placing}
-use Rattle.rb_spatial.specs.Relate.{Bodies, Placings, Spatials}
+use Rattle.rb_frac.specs.Spatial.{BodyInertia, Place, BodyInertias, Places, Spatials}
 use Rattle.rb_flat.specs.Joint.{JointChoice, chosen_place, chosen_column}
 use Rattle.rb_flat.specs.Body.{BodyChoice}
 use Rattle.rb_flat.specs.Choice.{LinkBrackets, LinkChosen, JointChosen}
@@ -15,13 +14,13 @@ use Rattle.rb_body.specs.Raw.{kind_of, joint_brackets}
 use Rattle.rb_body.specs.Laws.{chosen_body}
 
 -- for each choice of the link, the mass, the first moment and the inertia about the body's origin lie in i
-pub record EnclosesInertia (b : LinkBrackets) (i : Body Interval) : Type 0 where
-  pub at : (c : BodyChoice) → LinkChosen c b → Bodies LiesIn (chosen_body c) i
+pub record EnclosesInertia (b : LinkBrackets) (i : BodyInertia Interval) : Type 0 where
+  pub at : (c : BodyChoice) → LinkChosen c b → BodyInertias LiesIn (chosen_body c) i
 
 -- the model is of the kind of the joint, and has the frame and the axis of each choice of the joint: so its place and its columns enclose
 -- those of the joint relation
 pub record EnclosesJoint (m : AnyJoint) (j : JointRaw) : Type 0 where
   pub kind : Model.kind_of m ≡ kind_of j.kind
   pub choice : (c : JointChoice) (q : List Interval) → JointChosen c (joint_brackets j q) → Model.HasChoice m c
-  pub place : (c : JointChoice) (q : List Interval) (p : Placing Interval) → JointChosen c (joint_brackets j q) → Model.any_place m q ≡ Ok p → Placings LiesIn (placing (chosen_place (kind_of j.kind) c)) p
+  pub place : (c : JointChoice) (q : List Interval) (p : Place Interval) → JointChosen c (joint_brackets j q) → Model.any_place m q ≡ Ok p → Places LiesIn (placing (chosen_place (kind_of j.kind) c)) p
   pub column : (c : JointChoice) (q : List Interval) (k : ℕ) → JointChosen c (joint_brackets j q) → Spatials LiesIn (spatial (chosen_column (kind_of j.kind) c k)) (Model.any_column m k)

@@ -1,7 +1,7 @@
 -- What the numbers of a link and of a joint are to the equations: brackets, and a kind.
 use Rattle.std.specs.Prelude.{List}
 use Rattle.rb_num.specs.Interval.{Interval}
-use Rattle.rb_spatial.specs.Tables.{vector_of, symmetric_of}
+use Rattle.rb_spatial.specs.Vectors.{vector_of, symmetric_of}
 use Rattle.rb_flat.specs.Joint as Flat
 use Rattle.rb_flat.specs.Joint.{Kind}
 use Rattle.rb_flat.specs.Choice.{LinkBrackets, JointBrackets}

@@ -2,8 +2,10 @@
 use Rattle.std.specs.Prelude.{[], ◌∷◌}
 use Rattle.rb_frac.specs.Ops.{V3}
 use Rattle.rb_num.specs.Arith.{Arith}
-use Rattle.rb_spatial.specs.Tables.{Table, Symmetric, Body, full}
-use Rattle.rb_spatial.specs.Rules.{three, six, product, upper_product}
+use Rattle.rb_frac.specs.Tables.{Table, Symmetric, full}
+use Rattle.rb_frac.specs.Spatial.{BodyInertia}
+use Rattle.rb_spatial.specs.Motions.{three, six}
+use Rattle.rb_spatial.specs.Carrying.{product, upper_product}
 
 module _ (R : Arith) where
   -- k v
@@ -26,7 +28,7 @@ module _ (R : Arith) where
       (R.dot ((j.zz, R.one) ∷ (h.x, c.x) ∷ (h.y, c.y) ∷ []))
 
   -- the body of mass m and centre c, whose inertia about the centre is j along axes that stand by the rotation r
-  unfoldable pub body : Table R.N → R.N → V3 R.N → Symmetric R.N → R.M (Body R.N)
+  unfoldable pub body : Table R.N → R.N → V3 R.N → Symmetric R.N → R.M (BodyInertia R.N)
   body r m c j =
       R.bind (turned r j) (λ t.
       R.bind (scaled m c) (λ h.

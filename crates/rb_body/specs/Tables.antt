@@ -1,5 +1,5 @@
 -- Symmetric tables of the rules and of the equations, each as the other.
-use Rattle.rb_spatial.specs.Tables.{Symmetric}
+use Rattle.rb_frac.specs.Tables.{Symmetric}
 use Rattle.rb_flat.specs.Tables as Flat
 
 -- a table of the equations as one of the rules

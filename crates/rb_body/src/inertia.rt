@@ -1,6 +1,6 @@
 ghost use Rattle.std.specs.Prelude.{◌≡◌, ◌↔◌, IfOk, IfErr, IsErrOf};
 ghost use Rattle.rb_num.specs.Arith.{intervals};
-ghost use Rattle.rb_spatial.specs.Tables.{vector_of, symmetric_of};
+ghost use Rattle.rb_spatial.specs.Vectors.{vector_of, symmetric_of};
 ghost use Rattle.rb_joint.specs.Choices.{AreAngles};
 ghost use Rattle.rb_body.specs.Raw.{link_brackets};
 ghost use Rattle.rb_body.specs.Rules.{turned as turned_of, moved as moved_of, body as body_of};

@@ -1,5 +1,5 @@
 ghost use Rattle.std.specs.Prelude.{◌≡◌, ◌↔◌, IfOk, IsErrOf};
-ghost use Rattle.rb_spatial.specs.Tables.{vector_of};
+ghost use Rattle.rb_spatial.specs.Vectors.{vector_of};
 ghost use Rattle.rb_trig.specs.Axis.{MakesUnit};
 ghost use Rattle.rb_joint.specs.Choices.{AreAngles};
 ghost use Rattle.rb_body.specs.Raw.{HasModel};

@@ -1,6 +1,6 @@
 ghost use Rattle.std.specs.Prelude.{◌≡◌, IfOk, IfErr};
 ghost use Rattle.rb_num.specs.Arith.{intervals};
-ghost use Rattle.rb_spatial.specs.Tables.{vector_of};
+ghost use Rattle.rb_spatial.specs.Vectors.{vector_of};
 ghost use Rattle.rb_body.specs.Rules.{scaled as scaled_of};
 
 use rb_num::{Iv, NumFault, dot};

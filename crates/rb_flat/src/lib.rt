@@ -4,20 +4,6 @@
 //! does nothing.
 #![tactic(auto)]
 
-ghost use Rattle.rb_frac.specs.Frac.{Frac};
-ghost use Rattle.rb_flat.specs.Tables.{Turn};
-ghost use Rattle.rb_flat.specs.Laws.{TurnKeepsAxis, QuaternionKeepsVector, TurnsAboutCoordinates, CongruentIsSymmetric, ParallelAxesIsSquare};
+mod laws;
 
-/// A turn leaves its axis, and about a unit vector it is the turn about that coordinate axis.
-pub fn turn_law()
-    ensures axis { TurnKeepsAxis }
-    ensures quaternion { QuaternionKeepsVector }
-    ensures coordinates { (t : Turn Frac) → TurnsAboutCoordinates t }
-{}
-
-/// A turned inertia is symmetric, and what the distance of the centre adds to it is, but for the
-/// sign, the mass times the square of the table of the cross product with the centre.
-pub fn inertia_law()
-    ensures symmetric { CongruentIsSymmetric }
-    ensures parallel { ParallelAxesIsSquare }
-{}
+pub use laws::{inertia_law, turn_law};

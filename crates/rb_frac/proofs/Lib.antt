@@ -16,3 +16,4 @@ pub mod Interval
 pub mod Hom
 pub mod Matrix
 pub mod Laws
+pub mod Variables

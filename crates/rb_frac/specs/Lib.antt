@@ -3,4 +3,7 @@ pub mod Ops
 pub mod Frac
 pub mod System
 pub mod Pairs
+pub mod Tables
+pub mod Spatial
+pub mod Mechanics
 pub mod Laws

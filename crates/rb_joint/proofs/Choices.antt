@@ -9,18 +9,19 @@ use Rattle.rb_num.specs.Fraction.{LiesIn}
 use Rattle.rb_num.specs.Arith.{intervals}
 use Rattle.rb_num.proofs.Same.{lies_in_same}
 use Rattle.rb_num.proofs.Bridges.{to_intervals, ok_met}
-use Rattle.rb_spatial.specs.Tables.{Spatial, Placing, Pose, Table}
-use Rattle.rb_spatial.specs.Relate.{Vectors, Tables, Placings, Poses}
+use Rattle.rb_frac.specs.Spatial.{Spatial, Place, Frame, Places, Frames, SineCosine, SineCosines}
+use Rattle.rb_frac.specs.Tables.{Table, Vectors, Tables}
 use Rattle.rb_trig.specs.declared.sine.AngleRange.{AngleRange}
 use Rattle.rb_trig.specs.Sine.{sin_cos_of, Encloses}
 use Rattle.rb_trig.proofs.Results.{result_encloses}
-use Rattle.rb_flat.specs.Tables.{Turn, Frame}
 use Rattle.rb_flat.specs.Turns.{placed}
 use Rattle.rb_flat.specs.Joint.{Fixed, Revolute, Prismatic, HasTurn, AngleHasTurn, chosen_frame, chosen_axis, chosen_place, chosen_column, joint_turn, joint_shift, joint_column}
 use Rattle.rb_joint.specs.declared.faults.JointFault.{JointFault}
-use Rattle.rb_joint.specs.Tables.{Turns, Entries, pose, placing}
+use Rattle.std.specs.List.{AllZip}
+use Rattle.rb_joint.specs.Tables.{pose, placing}
 use Rattle.rb_joint.specs.Rules.{rotation, place_fixed, place_turned, place_along, along, around}
-use Rattle.rb_joint.specs.Models.{next, sized, turn_by, as_turn, frame_by, first, fixed_place, revolute_place, prismatic_place}
+use Rattle.rb_result.specs.Steps.{◌>>=◌}
+use Rattle.rb_joint.specs.Models.{sized, turn_by, as_turn, frame_by, first, fixed_place, revolute_place, prismatic_place}
 use Rattle.rb_joint.specs.Choices.{HasFrame, HasFrameAndAxis, EnclosesFrame, EnclosesPlace, EnclosesColumn}
 use Rattle.rb_joint.proofs.Keep.{place_fixed_met, place_turned_met, place_along_met, rotation_met}
 use Rattle.rb_joint.proofs.Identities.{place_fixed-placed, place_turned-placed, place_along-placed, rotation-product}
@@ -32,7 +33,7 @@ vectors_same s h = record { x = lies_in_same _ _ _ s.x h.x; y = lies_in_same _ _
 tables_same : {u v : Table Frac} {w : Table Interval} → Tables Same u v → Tables LiesIn u w → Tables LiesIn v w
 tables_same s h = record { x = vectors_same s.x h.x; y = vectors_same s.y h.y; z = vectors_same s.z h.z }
 
-placings_same : {u v : Placing Frac} {w : Placing Interval} → Placings Same u v → Placings LiesIn u w → Placings LiesIn v w
+placings_same : {u v : Place Frac} {w : Place Interval} → Places Same u v → Places LiesIn u w → Places LiesIn v w
 placings_same s h = record { e = tables_same s.e h.e; r = vectors_same s.r h.r }
 
 -- ---- steps
@@ -46,11 +47,11 @@ sized_answer P (Ok x) f = f x refl
 sized_answer P (Err e) f = tt
 
 -- the pair of each angle in x lies in the turn by x
-turn_lies : (x : Interval) → IfOk (turn_by x) (λ t. (y : Frac) (u : Turn Frac) → LiesIn y x → HasTurn y u → Turns LiesIn u t)
+turn_lies : (x : Interval) → IfOk (turn_by x) (λ t. (y : Frac) (u : SineCosine Frac) → LiesIn y x → HasTurn y u → SineCosines LiesIn u t)
 unfolding turn_by
 turn_lies x = go (sin_cos_of x) (result_encloses x (sin_cos_of x) refl)
   where
-    go : (r : Result (Interval × Interval) AngleRange) → IfOk r (Encloses x) → IfOk (as_turn r) (λ t. (y : Frac) (u : Turn Frac) → LiesIn y x → HasTurn y u → Turns LiesIn u t)
+    go : (r : Result (Interval × Interval) AngleRange) → IfOk r (Encloses x) → IfOk (as_turn r) (λ t. (y : Frac) (u : SineCosine Frac) → LiesIn y x → HasTurn y u → SineCosines LiesIn u t)
     go (Ok p) h = λ y u l k. let b = h.at y u.sin u.cos l k in record { sin = b.0; cos = b.1 }
     go (Err e) h = tt
 
@@ -67,10 +68,10 @@ frame_encloses xyz rpy =
     next_ok _ (turn_by rpy.y) _ (if_ok _ _ (turn_by rpy.y) (λ pitch hp.
     next_ok _ (turn_by rpy.z) _ (if_ok _ _ (turn_by rpy.z) (λ yaw hy. rotated roll pitch yaw hr hp hy) (turn_lies rpy.z))) (turn_lies rpy.y))) (turn_lies rpy.x))
   where
-    Lies : Interval → Turn Interval → Type 0
-    Lies x t = (y : Frac) (u : Turn Frac) → LiesIn y x → HasTurn y u → Turns LiesIn u t
+    Lies : Interval → SineCosine Interval → Type 0
+    Lies x t = (y : Frac) (u : SineCosine Frac) → LiesIn y x → HasTurn y u → SineCosines LiesIn u t
 
-    rotated : (roll pitch yaw : Turn Interval) → Lies rpy.x roll → Lies rpy.y pitch → Lies rpy.z yaw → IfOk (next (sized (rotation intervals roll pitch yaw)) (λ r. Ok (record { rot = r; at = xyz }))) (EnclosesFrame xyz rpy)
+    rotated : (roll pitch yaw : SineCosine Interval) → Lies rpy.x roll → Lies rpy.y pitch → Lies rpy.z yaw → IfOk (next (sized (rotation intervals roll pitch yaw)) (λ r. Ok (record { rot = r; at = xyz }))) (EnclosesFrame xyz rpy)
     rotated roll pitch yaw hr hp hy =
         next_ok _ (sized (rotation intervals roll pitch yaw)) _ (sized_answer _ (rotation intervals roll pitch yaw) (λ v e. record {
           at = λ c k o l. record {
@@ -82,18 +83,18 @@ frame_encloses xyz rpy =
         }))
 
 -- ---- places
-fixed_encloses : (f : Pose Interval) (q : List Interval) → IfOk (fixed_place f) (EnclosesPlace Fixed (HasFrame f) q)
+fixed_encloses : (f : Frame Interval) (q : List Interval) → IfOk (fixed_place f) (EnclosesPlace Fixed (HasFrame f) q)
 unfolding fixed_place chosen_place joint_turn joint_shift
 fixed_encloses f q =
     sized_answer _ (place_fixed intervals f) (λ v e. record { at = λ c i h l. placings_same (place_fixed-placed (chosen_frame c)) (ok_met e (place_fixed_met to_intervals h.frame)) })
 
 -- the one entry
-angle_of : (xs : List Frac) (t : Turn Frac) (x : Interval) → AngleHasTurn Revolute xs t → Entries LiesIn xs (x ∷ []) → (y : Frac) × HasTurn y t × LiesIn y x
+angle_of : (xs : List Frac) (t : SineCosine Frac) (x : Interval) → AngleHasTurn Revolute xs t → AllZip LiesIn xs (x ∷ []) → (y : Frac) × HasTurn y t × LiesIn y x
 angle_of (y ∷ []) t x h l = (y, h, l.0)
 angle_of [] t x h l = absurd l
 angle_of (y ∷ (z ∷ ys)) t x h l = absurd l.1
 
-revolute_encloses : (f : Pose Interval) (a : V3 Interval) (q : List Interval) → length q ≡ 1 → IfOk (revolute_place f a (first q)) (EnclosesPlace Revolute (HasFrameAndAxis f a) q)
+revolute_encloses : (f : Frame Interval) (a : V3 Interval) (q : List Interval) → length q ≡ 1 → IfOk (revolute_place f a (first q)) (EnclosesPlace Revolute (HasFrameAndAxis f a) q)
 unfolding revolute_place chosen_place joint_turn joint_shift
 revolute_encloses f a (x ∷ []) h =
     next_ok _ (turn_by x) _ (if_ok _ _ (turn_by x) (λ t ht. sized_answer _ (place_turned intervals f a t) (λ v e. record {
@@ -104,12 +105,12 @@ revolute_encloses f a (x ∷ []) h =
 revolute_encloses f a [] h = absurd (omega arith)
 revolute_encloses f a (x ∷ (y ∷ q)) h = absurd (omega arith)
 
-prismatic_encloses : (f : Pose Interval) (a : V3 Interval) (q : List Interval) → length q ≡ 1 → IfOk (prismatic_place f a (first q)) (EnclosesPlace Prismatic (HasFrameAndAxis f a) q)
+prismatic_encloses : (f : Frame Interval) (a : V3 Interval) (q : List Interval) → length q ≡ 1 → IfOk (prismatic_place f a (first q)) (EnclosesPlace Prismatic (HasFrameAndAxis f a) q)
 unfolding prismatic_place chosen_place joint_turn joint_shift
 prismatic_encloses f a (x ∷ []) h =
     sized_answer _ (place_along intervals f a x) (λ v e. record { at = λ c i k l. go v e (chosen_frame c) (chosen_axis c) c.turn c.entries k.frame k.axis l })
   where
-    go : (v : Placing Interval) → place_along intervals f a x ≡ Ok v → (g : Frame Frac) (b : V3 Frac) (t : Turn Frac) (xs : List Frac) → Poses LiesIn (pose g) f → Vectors LiesIn b a → Entries LiesIn xs (x ∷ []) → Placings LiesIn (placing (placed fracs g (joint_turn fracs Prismatic b t xs) (joint_shift fracs Prismatic b xs))) v
+    go : (v : Place Interval) → place_along intervals f a x ≡ Ok v → (g : Frame Frac) (b : V3 Frac) (t : SineCosine Frac) (xs : List Frac) → Frames LiesIn (pose g) f → Vectors LiesIn b a → AllZip LiesIn xs (x ∷ []) → Places LiesIn (placing (placed fracs g (joint_turn fracs Prismatic b t xs) (joint_shift fracs Prismatic b xs))) v
     go v e g b t (y ∷ []) hg hb l = placings_same (place_along-placed g b y) (ok_met e (place_along_met to_intervals hg hb l.0))
     go v e g b t [] hg hb l = absurd l
     go v e g b t (y ∷ (z ∷ ys)) hg hb l = absurd l.1
@@ -117,23 +118,23 @@ prismatic_encloses f a [] h = absurd (omega arith)
 prismatic_encloses f a (x ∷ (y ∷ q)) h = absurd (omega arith)
 
 -- ---- answers of these
-pub frame_answer : (xyz rpy : V3 Interval) (r : Pose Interval) → frame_by xyz rpy ≡ Ok r → EnclosesFrame xyz rpy r
+pub frame_answer : (xyz rpy : V3 Interval) (r : Frame Interval) → frame_by xyz rpy ≡ Ok r → EnclosesFrame xyz rpy r
 frame_answer xyz rpy r e = IfOk-at_ok _ e (frame_encloses xyz rpy)
 
-pub fixed_answer : (f : Pose Interval) (q : List Interval) (p : Placing Interval) → fixed_place f ≡ Ok p → EnclosesPlace Fixed (HasFrame f) q p
+pub fixed_answer : (f : Frame Interval) (q : List Interval) (p : Place Interval) → fixed_place f ≡ Ok p → EnclosesPlace Fixed (HasFrame f) q p
 fixed_answer f q p e = IfOk-at_ok _ e (fixed_encloses f q)
 
-pub revolute_answer : (f : Pose Interval) (a : V3 Interval) (q : List Interval) (p : Placing Interval) → length q ≡ 1 → revolute_place f a (first q) ≡ Ok p → EnclosesPlace Revolute (HasFrameAndAxis f a) q p
+pub revolute_answer : (f : Frame Interval) (a : V3 Interval) (q : List Interval) (p : Place Interval) → length q ≡ 1 → revolute_place f a (first q) ≡ Ok p → EnclosesPlace Revolute (HasFrameAndAxis f a) q p
 revolute_answer f a q p h e = IfOk-at_ok _ e (revolute_encloses f a q h)
 
-pub prismatic_answer : (f : Pose Interval) (a : V3 Interval) (q : List Interval) (p : Placing Interval) → length q ≡ 1 → prismatic_place f a (first q) ≡ Ok p → EnclosesPlace Prismatic (HasFrameAndAxis f a) q p
+pub prismatic_answer : (f : Frame Interval) (a : V3 Interval) (q : List Interval) (p : Place Interval) → length q ≡ 1 → prismatic_place f a (first q) ≡ Ok p → EnclosesPlace Prismatic (HasFrameAndAxis f a) q p
 prismatic_answer f a q p h e = IfOk-at_ok _ e (prismatic_encloses f a q h)
 
 -- ---- columns
-pub revolute_column : (f : Pose Interval) (a : V3 Interval) (k : ℕ) (s : Spatial Interval) → s ≡ around intervals a → EnclosesColumn Revolute (HasFrameAndAxis f a) k s
+pub revolute_column : (f : Frame Interval) (a : V3 Interval) (k : ℕ) (s : Spatial Interval) → s ≡ around intervals a → EnclosesColumn Revolute (HasFrameAndAxis f a) k s
 unfolding chosen_column joint_column
 revolute_column f a k s e = record { at = λ c h. rw e (record { lin = record { x = to_intervals.zero; y = to_intervals.zero; z = to_intervals.zero }; ang = h.axis }) }
 
-pub prismatic_column : (f : Pose Interval) (a : V3 Interval) (k : ℕ) (s : Spatial Interval) → s ≡ along intervals a → EnclosesColumn Prismatic (HasFrameAndAxis f a) k s
+pub prismatic_column : (f : Frame Interval) (a : V3 Interval) (k : ℕ) (s : Spatial Interval) → s ≡ along intervals a → EnclosesColumn Prismatic (HasFrameAndAxis f a) k s
 unfolding chosen_column joint_column
 prismatic_column f a k s e = record { at = λ c h. rw e (record { lin = h.axis; ang = record { x = to_intervals.zero; y = to_intervals.zero; z = to_intervals.zero } }) }

@@ -7,35 +7,34 @@ use Rattle.rb_frac.proofs.Ring.{Expr, expr, var, eval, same}
 use Rattle.rb_frac.proofs.Hom.{frac_ring}
 use Rattle.rb_num.specs.Arith.{fractions}
 use Rattle.rb_num.proofs.Bridges.{expressions}
-use Rattle.rb_spatial.specs.Tables.{Table, Pose}
-use Rattle.rb_spatial.specs.Relate.{Vectors, Tables, Placings}
-use Rattle.rb_spatial.specs.Rules.{row_mul, product}
+use Rattle.rb_frac.specs.Tables.{Table, Vectors, Tables, table_times, table_product, table_sum, table_scaled}
+use Rattle.rb_frac.specs.Spatial.{Frame, Places, SineCosine, Quaternion}
+use Rattle.rb_spatial.specs.Carrying.{row_mul, product}
 use Rattle.rb_spatial.proofs.Vars.{vector, rows, of_vector, of_rows, at}
 use Rattle.rb_flat.specs.Tables as Tables
-use Rattle.rb_flat.specs.Tables.{Turn, Quaternion}
 use Rattle.rb_flat.specs.Turns as Flat
-use Rattle.rb_flat.specs.Turns.{turned, table_product, table_sum, table_scaled, roll_pitch_yaw, about_axis, about_quaternion, placed}
+use Rattle.rb_flat.specs.Turns.{roll_pitch_yaw, about_axis, about_quaternion, placed}
 use Rattle.rb_joint.specs.Tables.{table, placing, frame}
 use Rattle.rb_joint.specs.Tables as Plain
 use Rattle.rb_joint.specs.Rules.{rotation_x, rotation_y, rotation_z, rotation, axis_products, about_x, about_y, about_z, turn_about, turn_level, quaternion_x, quaternion_y, quaternion_z, twice, turn_of, outside, place_of, place_shifted, shift_along, place_fixed, place_turned, place_along}
 use Rattle.rb_joint.specs.Laws.{RotationIsProduct, TurnIsAboutAxis, LevelTurnIsAboutZ, TurnIsAboutQuaternion, PlaceIsProduct, ShiftedPlaceTurnsNot}
 
-abbrev turn : ℕ → Turn Expr
+abbrev turn : ℕ → SineCosine Expr
 turn i = record { sin = var i; cos = var (i + 1) }
 
 abbrev quaternion : ℕ → Quaternion Expr
 quaternion i = record { x = var i; y = var (i + 1); z = var (i + 2); w = var (i + 3) }
 
-abbrev pose : ℕ → Pose Expr
+abbrev pose : ℕ → Frame Expr
 pose i = record { rot = rows i; at = vector (i + 9) }
 
-abbrev of_turn : Turn Frac → List Frac → List Frac
+abbrev of_turn : SineCosine Frac → List Frac → List Frac
 of_turn t l = t.sin ∷ t.cos ∷ l
 
 abbrev of_quaternion : Quaternion Frac → List Frac → List Frac
 of_quaternion q l = q.x ∷ q.y ∷ q.z ∷ q.w ∷ l
 
-abbrev of_pose : Pose Frac → List Frac → List Frac
+abbrev of_pose : Frame Frac → List Frac → List Frac
 of_pose f l = of_rows f.rot (of_vector f.at l)
 
 abbrev vector_value : (ℕ → Frac) → V3 Expr → V3 Frac
@@ -83,7 +82,7 @@ turn_of-quaternion q =
     (refl, refl, refl) (refl, refl, refl) (refl, refl, refl)
 
 pub place_of-placed : PlaceIsProduct
-unfolding place_of product row_mul outside dot placed table_product turned vadd dot3
+unfolding place_of product row_mul outside dot placed table_product table_times vadd dot3
 place_of-placed f t p =
     let l = of_pose f (of_rows t (of_vector p [])) in
     let got = place_of expressions (pose 0) (rows 12) (vector 21) in
@@ -94,7 +93,7 @@ place_of-placed f t p =
     }
 
 pub place_shifted-placed : ShiftedPlaceTurnsNot
-unfolding place_shifted outside dot placed table_product turned vadd dot3
+unfolding place_shifted outside dot placed table_product table_times vadd dot3
 place_shifted-placed f p =
     let l = of_pose f (of_vector p []) in
     let got = place_shifted expressions (pose 0) (vector 12) in
@@ -108,8 +107,8 @@ place_shifted-placed f p =
 abbrev of_frame : Tables.Frame Frac → List Frac → List Frac
 of_frame f l = of_pose (Plain.pose f) l
 
-pub place_fixed-placed : (f : Tables.Frame Frac) → Placings Same (place_fixed fractions (Plain.pose f)) (placing (placed fracs f (Flat.identity fracs) (Flat.nothing fracs)))
-unfolding place_fixed place_shifted outside dot placed table_product turned vadd dot3
+pub place_fixed-placed : (f : Tables.Frame Frac) → Places Same (place_fixed fractions (Plain.pose f)) (placing (placed fracs f (Flat.identity fracs) (Flat.nothing fracs)))
+unfolding place_fixed place_shifted outside dot placed table_product table_times vadd dot3
 place_fixed-placed f =
     let l = of_frame f [] in
     let got = place_fixed expressions (pose 0) in
@@ -119,8 +118,8 @@ place_fixed-placed f =
       r = vectors l got.r want.r (refl, refl, refl);
     }
 
-pub place_along-placed : (f : Tables.Frame Frac) (a : V3 Frac) (d : Frac) → Placings Same (place_along fractions (Plain.pose f) a d) (placing (placed fracs f (Flat.identity fracs) (vscale fracs d a)))
-unfolding place_along shift_along place_shifted outside dot placed table_product turned vadd vscale dot3
+pub place_along-placed : (f : Tables.Frame Frac) (a : V3 Frac) (d : Frac) → Places Same (place_along fractions (Plain.pose f) a d) (placing (placed fracs f (Flat.identity fracs) (vscale fracs d a)))
+unfolding place_along shift_along place_shifted outside dot placed table_product table_times vadd vscale dot3
 place_along-placed f a d =
     let l = of_frame f (of_vector a (d ∷ [])) in
     let got = place_along expressions (pose 0) (vector 12) (var 15) in
@@ -130,8 +129,8 @@ place_along-placed f a d =
       r = vectors l got.r want.r (refl, refl, refl);
     }
 
-pub place_turned-placed : (f : Tables.Frame Frac) (a : V3 Frac) (t : Turn Frac) → Placings Same (place_turned fractions (Plain.pose f) a t) (placing (placed fracs f (about_axis fracs a t) (Flat.nothing fracs)))
-unfolding place_turned place_of product row_mul turn_about axis_products about_x about_y about_z outside dot placed about_axis table_product table_sum table_scaled turned vadd dot3
+pub place_turned-placed : (f : Tables.Frame Frac) (a : V3 Frac) (t : SineCosine Frac) → Places Same (place_turned fractions (Plain.pose f) a t) (placing (placed fracs f (about_axis fracs a t) (Flat.nothing fracs)))
+unfolding place_turned place_of product row_mul turn_about axis_products about_x about_y about_z outside dot placed about_axis table_product table_sum table_scaled table_times vadd dot3
 place_turned-placed f a t =
     let l = of_frame f (of_vector a (of_turn t [])) in
     let got = place_turned expressions (pose 0) (vector 12) (turn 15) in

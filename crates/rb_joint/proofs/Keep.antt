@@ -2,28 +2,26 @@
 use Rattle.rb_frac.specs.Ops.{V3}
 use Rattle.rb_num.specs.Arith.{Arith}
 use Rattle.rb_num.proofs.Relates.{Relates, Met, dot_met, add_met, sub_met, ret_met, then_met}
-use Rattle.rb_spatial.specs.Tables.{Table, Symmetric, Pose}
-use Rattle.rb_spatial.specs.Relate.{Vectors, Tables, Symmetrics, Placings, Poses}
+use Rattle.rb_frac.specs.Tables.{Table, Symmetric, Vectors, Tables, Symmetrics}
+use Rattle.rb_frac.specs.Spatial.{Frame, Places, Frames, SineCosine, Quaternion, SineCosines, Quaternions}
 use Rattle.rb_spatial.proofs.Keep.{three_met, rows_met, six_met, product_met, transpose_rel}
-use Rattle.rb_flat.specs.Tables.{Turn, Quaternion}
-use Rattle.rb_joint.specs.Tables.{Turns, Quaternions}
 use Rattle.rb_joint.specs.Rules.{rotation_x, rotation_y, rotation_z, rotation, axis_products, about_x, about_y, about_z, turn_about, turn_level, quaternion_x, quaternion_y, quaternion_z, twice, turn_of, outside, place_of, place_shifted, origin, shift_along, place_fixed, place_turned, place_along}
 
 module _ {R Q : Arith} (K : Relates R Q) where
-  rotation_x_met : {roll pitch yaw : Turn R.N} {t1 t2 : R.N} {roll' pitch' yaw' : Turn Q.N} {t1' t2' : Q.N} → Turns K.rel roll roll' → Turns K.rel pitch pitch' → Turns K.rel yaw yaw' → K.rel t1 t1' → K.rel t2 t2' → Met K (Vectors K.rel) (rotation_x R roll pitch yaw t1 t2) (rotation_x Q roll' pitch' yaw' t1' t2')
+  rotation_x_met : {roll pitch yaw : SineCosine R.N} {t1 t2 : R.N} {roll' pitch' yaw' : SineCosine Q.N} {t1' t2' : Q.N} → SineCosines K.rel roll roll' → SineCosines K.rel pitch pitch' → SineCosines K.rel yaw yaw' → K.rel t1 t1' → K.rel t2 t2' → Met K (Vectors K.rel) (rotation_x R roll pitch yaw t1 t2) (rotation_x Q roll' pitch' yaw' t1' t2')
   unfolding rotation_x
   rotation_x_met hr hp hy h1 h2 = search (three_met K, dot_met K, K.neg) depth 9
 
-  rotation_y_met : {roll pitch yaw : Turn R.N} {t1 t2 : R.N} {roll' pitch' yaw' : Turn Q.N} {t1' t2' : Q.N} → Turns K.rel roll roll' → Turns K.rel pitch pitch' → Turns K.rel yaw yaw' → K.rel t1 t1' → K.rel t2 t2' → Met K (Vectors K.rel) (rotation_y R roll pitch yaw t1 t2) (rotation_y Q roll' pitch' yaw' t1' t2')
+  rotation_y_met : {roll pitch yaw : SineCosine R.N} {t1 t2 : R.N} {roll' pitch' yaw' : SineCosine Q.N} {t1' t2' : Q.N} → SineCosines K.rel roll roll' → SineCosines K.rel pitch pitch' → SineCosines K.rel yaw yaw' → K.rel t1 t1' → K.rel t2 t2' → Met K (Vectors K.rel) (rotation_y R roll pitch yaw t1 t2) (rotation_y Q roll' pitch' yaw' t1' t2')
   unfolding rotation_y
   rotation_y_met hr hp hy h1 h2 = search (three_met K, dot_met K, K.neg) depth 9
 
-  rotation_z_met : {roll pitch : Turn R.N} {roll' pitch' : Turn Q.N} → Turns K.rel roll roll' → Turns K.rel pitch pitch' → Met K (Vectors K.rel) (rotation_z R roll pitch) (rotation_z Q roll' pitch')
+  rotation_z_met : {roll pitch : SineCosine R.N} {roll' pitch' : SineCosine Q.N} → SineCosines K.rel roll roll' → SineCosines K.rel pitch pitch' → Met K (Vectors K.rel) (rotation_z R roll pitch) (rotation_z Q roll' pitch')
   unfolding rotation_z
   rotation_z_met hr hp =
       three_met K (ret_met K (K.neg _ _ hp.sin)) (dot_met K _ _ (hp.cos, hr.sin, tt)) (dot_met K _ _ (hp.cos, hr.cos, tt))
 
-  pub rotation_met : {roll pitch yaw : Turn R.N} {roll' pitch' yaw' : Turn Q.N} → Turns K.rel roll roll' → Turns K.rel pitch pitch' → Turns K.rel yaw yaw' → Met K (Tables K.rel) (rotation R roll pitch yaw) (rotation Q roll' pitch' yaw')
+  pub rotation_met : {roll pitch yaw : SineCosine R.N} {roll' pitch' yaw' : SineCosine Q.N} → SineCosines K.rel roll roll' → SineCosines K.rel pitch pitch' → SineCosines K.rel yaw yaw' → Met K (Tables K.rel) (rotation R roll pitch yaw) (rotation Q roll' pitch' yaw')
   unfolding rotation
   rotation_met hr hp hy =
       then_met K (dot_met K _ _ (hp.sin, hr.sin, tt)) (λ _ _ h1.
@@ -46,13 +44,13 @@ module _ {R Q : Arith} (K : Relates R Q) where
   unfolding about_z
   about_z_met ha hp hs hk = search (three_met K, dot_met K, K.neg, K.one) depth 9
 
-  pub turn_about_met : {a : V3 R.N} {p : Symmetric R.N} {t : Turn R.N} {a' : V3 Q.N} {p' : Symmetric Q.N} {t' : Turn Q.N} → Vectors K.rel a a' → Symmetrics K.rel p p' → Turns K.rel t t' → Met K (Tables K.rel) (turn_about R a p t) (turn_about Q a' p' t')
+  pub turn_about_met : {a : V3 R.N} {p : Symmetric R.N} {t : SineCosine R.N} {a' : V3 Q.N} {p' : Symmetric Q.N} {t' : SineCosine Q.N} → Vectors K.rel a a' → Symmetrics K.rel p p' → SineCosines K.rel t t' → Met K (Tables K.rel) (turn_about R a p t) (turn_about Q a' p' t')
   unfolding turn_about
   turn_about_met ha hp ht =
       then_met K (sub_met K K.one ht.cos) (λ _ _ hk.
       rows_met K (about_x_met ha hp ht.sin hk) (about_y_met ha hp ht.sin hk) (about_z_met ha hp ht.sin hk))
 
-  pub turn_level_rel : {t : Turn R.N} {t' : Turn Q.N} → Turns K.rel t t' → Tables K.rel (turn_level R t) (turn_level Q t')
+  pub turn_level_rel : {t : SineCosine R.N} {t' : SineCosine Q.N} → SineCosines K.rel t t' → Tables K.rel (turn_level R t) (turn_level Q t')
   unfolding turn_level
   turn_level_rel h = search (h, K.neg, K.zero, K.one)
 
@@ -76,17 +74,17 @@ module _ {R Q : Arith} (K : Relates R Q) where
   unfolding turn_of
   turn_of_met h = then_met K (twice_met h) (λ _ _ hd. rows_met K (quaternion_x_met h hd) (quaternion_y_met h hd) (quaternion_z_met h hd))
 
-  outside_met : {f : Pose R.N} {p : V3 R.N} {f' : Pose Q.N} {p' : V3 Q.N} → Poses K.rel f f' → Vectors K.rel p p' → Met K (Vectors K.rel) (outside R f p) (outside Q f' p')
+  outside_met : {f : Frame R.N} {p : V3 R.N} {f' : Frame Q.N} {p' : V3 Q.N} → Frames K.rel f f' → Vectors K.rel p p' → Met K (Vectors K.rel) (outside R f p) (outside Q f' p')
   unfolding outside
   outside_met hf hp = search (three_met K, dot_met K, K.one) depth 9
 
-  pub place_of_met : {f : Pose R.N} {t : Table R.N} {p : V3 R.N} {f' : Pose Q.N} {t' : Table Q.N} {p' : V3 Q.N} → Poses K.rel f f' → Tables K.rel t t' → Vectors K.rel p p' → Met K (Placings K.rel) (place_of R f t p) (place_of Q f' t' p')
+  pub place_of_met : {f : Frame R.N} {t : Table R.N} {p : V3 R.N} {f' : Frame Q.N} {t' : Table Q.N} {p' : V3 Q.N} → Frames K.rel f f' → Tables K.rel t t' → Vectors K.rel p p' → Met K (Places K.rel) (place_of R f t p) (place_of Q f' t' p')
   unfolding place_of
   place_of_met hf ht hp =
       then_met K (product_met K hf.rot ht) (λ _ _ he.
       then_met K (outside_met hf hp) (λ _ _ hr. ret_met K (record { e = transpose_rel K he; r = hr })))
 
-  pub place_shifted_met : {f : Pose R.N} {p : V3 R.N} {f' : Pose Q.N} {p' : V3 Q.N} → Poses K.rel f f' → Vectors K.rel p p' → Met K (Placings K.rel) (place_shifted R f p) (place_shifted Q f' p')
+  pub place_shifted_met : {f : Frame R.N} {p : V3 R.N} {f' : Frame Q.N} {p' : V3 Q.N} → Frames K.rel f f' → Vectors K.rel p p' → Met K (Places K.rel) (place_shifted R f p) (place_shifted Q f' p')
   unfolding place_shifted
   place_shifted_met hf hp = then_met K (outside_met hf hp) (λ _ _ hr. ret_met K (record { e = transpose_rel K hf.rot; r = hr }))
 
@@ -97,16 +95,16 @@ module _ {R Q : Arith} (K : Relates R Q) where
   unfolding shift_along
   shift_along_met ha hd = three_met K (dot_met K _ _ (ha.x, hd, tt)) (dot_met K _ _ (ha.y, hd, tt)) (dot_met K _ _ (ha.z, hd, tt))
 
-  pub place_fixed_met : {f : Pose R.N} {f' : Pose Q.N} → Poses K.rel f f' → Met K (Placings K.rel) (place_fixed R f) (place_fixed Q f')
+  pub place_fixed_met : {f : Frame R.N} {f' : Frame Q.N} → Frames K.rel f f' → Met K (Places K.rel) (place_fixed R f) (place_fixed Q f')
   unfolding place_fixed
   place_fixed_met hf = place_shifted_met hf origin_rel
 
-  pub place_turned_met : {f : Pose R.N} {a : V3 R.N} {t : Turn R.N} {f' : Pose Q.N} {a' : V3 Q.N} {t' : Turn Q.N} → Poses K.rel f f' → Vectors K.rel a a' → Turns K.rel t t' → Met K (Placings K.rel) (place_turned R f a t) (place_turned Q f' a' t')
+  pub place_turned_met : {f : Frame R.N} {a : V3 R.N} {t : SineCosine R.N} {f' : Frame Q.N} {a' : V3 Q.N} {t' : SineCosine Q.N} → Frames K.rel f f' → Vectors K.rel a a' → SineCosines K.rel t t' → Met K (Places K.rel) (place_turned R f a t) (place_turned Q f' a' t')
   unfolding place_turned
   place_turned_met hf ha ht =
       then_met K (axis_products_met ha) (λ _ _ hp.
       then_met K (turn_about_met ha hp ht) (λ _ _ hr. place_of_met hf hr origin_rel))
 
-  pub place_along_met : {f : Pose R.N} {a : V3 R.N} {d : R.N} {f' : Pose Q.N} {a' : V3 Q.N} {d' : Q.N} → Poses K.rel f f' → Vectors K.rel a a' → K.rel d d' → Met K (Placings K.rel) (place_along R f a d) (place_along Q f' a' d')
+  pub place_along_met : {f : Frame R.N} {a : V3 R.N} {d : R.N} {f' : Frame Q.N} {a' : V3 Q.N} {d' : Q.N} → Frames K.rel f f' → Vectors K.rel a a' → K.rel d d' → Met K (Places K.rel) (place_along R f a d) (place_along Q f' a' d')
   unfolding place_along
   place_along_met hf ha hd = then_met K (shift_along_met ha hd) (λ _ _ hp. place_shifted_met hf hp)

@@ -4,18 +4,19 @@ use Rattle.rb_frac.specs.Ops.{V3}
 use Rattle.rb_num.specs.declared.interval.NumFault.{NumFault}
 use Rattle.rb_num.specs.Interval.{Interval}
 use Rattle.rb_num.specs.Arith.{intervals}
-use Rattle.rb_spatial.specs.Tables.{Table, Placing, Pose}
+use Rattle.rb_frac.specs.Tables.{Table}
+use Rattle.rb_frac.specs.Spatial.{Place, Frame, SineCosine}
 use Rattle.rb_trig.specs.declared.sine.AngleRange.{AngleRange}
 use Rattle.rb_trig.specs.Sine.{IsAngle, sin_cos_of}
 use Rattle.rb_trig.proofs.Results.{ranges}
-use Rattle.rb_flat.specs.Tables.{Turn}
 use Rattle.rb_joint.specs.declared.faults.JointFault.{JointFault}
 use Rattle.rb_joint.specs.declared.faults.JointFault.TheVariants.{Range}
 use Rattle.rb_joint.specs.Rules.{rotation, place_fixed, place_turned, place_along}
-use Rattle.rb_joint.specs.Models.{next, sized, as_turn, turn_by, frame_by, fixed_place, revolute_place, prismatic_place}
+use Rattle.rb_result.specs.Steps.{◌>>=◌}
+use Rattle.rb_joint.specs.Models.{sized, as_turn, turn_by, frame_by, fixed_place, revolute_place, prismatic_place}
 use Rattle.rb_joint.specs.Choices.{AreAngles}
 
-abbrev AnswersBy : Interval → Result (Turn Interval) JointFault → Type 0
+abbrev AnswersBy : Interval → Result (SineCosine Interval) JointFault → Type 0
 AnswersBy x (Ok t) = ¬ (¬ IsAngle x)
 AnswersBy x (Err e) = (e ≡ Range) × (¬ IsAngle x)
 
@@ -39,15 +40,15 @@ sized_alone : {A : Type 0} (r : Result A NumFault) → sized r ≡ Err Range →
 sized_alone (Ok x) h = cc
 sized_alone (Err e) h = cc
 
-pub frame_range : (xyz rpy : V3 Interval) (r : Result (Pose Interval) JointFault) → r ≡ frame_by xyz rpy → (r ≡ Err Range) ↔ (¬ AreAngles rpy)
+pub frame_range : (xyz rpy : V3 Interval) (r : Result (Frame Interval) JointFault) → r ≡ frame_by xyz rpy → (r ≡ Err Range) ↔ (¬ AreAngles rpy)
 unfolding frame_by
 frame_range xyz rpy r e =
     rw e (go (turn_by rpy.x) (turn_by rpy.y) (turn_by rpy.z) (turn_answers rpy.x) (turn_answers rpy.y) (turn_answers rpy.z))
   where
-    posed : Table Interval → Result (Pose Interval) JointFault
+    posed : Table Interval → Result (Frame Interval) JointFault
     posed t = Ok (record { rot = t; at = xyz })
 
-    go : (a b c : Result (Turn Interval) JointFault) → AnswersBy rpy.x a → AnswersBy rpy.y b → AnswersBy rpy.z c → (next a (λ roll. next b (λ pitch. next c (λ yaw. next (sized (rotation intervals roll pitch yaw)) posed))) ≡ Err Range) ↔ (¬ AreAngles rpy)
+    go : (a b c : Result (SineCosine Interval) JointFault) → AnswersBy rpy.x a → AnswersBy rpy.y b → AnswersBy rpy.z c → (next a (λ roll. next b (λ pitch. next c (λ yaw. next (sized (rotation intervals roll pitch yaw)) posed))) ≡ Err Range) ↔ (¬ AreAngles rpy)
     go (Err e) b c h i j = (λ k n. h.1 n.roll, λ n. ap (λ (f : JointFault). Err f) h.0)
     go (Ok t) (Err e) c h i j = (λ k n. i.1 n.pitch, λ n. ap (λ (f : JointFault). Err f) i.0)
     go (Ok t) (Ok u) (Err e) h i j = (λ k n. j.1 n.yaw, λ n. ap (λ (f : JointFault). Err f) j.0)
@@ -56,18 +57,18 @@ frame_range xyz rpy r e =
       λ n. absurd (h (λ a. i (λ b. j (λ c. n (record { roll = a; pitch = b; yaw = c }))))),
     )
 
-pub fixed_range : (f : Pose Interval) (r : Result (Placing Interval) JointFault) → r ≡ fixed_place f → (r ≡ Err Range) ↔ ⊥
+pub fixed_range : (f : Frame Interval) (r : Result (Place Interval) JointFault) → r ≡ fixed_place f → (r ≡ Err Range) ↔ ⊥
 unfolding fixed_place
 fixed_range f r e = rw e (λ h. sized_alone (place_fixed intervals f) h, λ n. absurd n)
 
-pub revolute_range : (f : Pose Interval) (a : V3 Interval) (x : Interval) (r : Result (Placing Interval) JointFault) → r ≡ revolute_place f a x → (r ≡ Err Range) ↔ (¬ IsAngle x)
+pub revolute_range : (f : Frame Interval) (a : V3 Interval) (x : Interval) (r : Result (Place Interval) JointFault) → r ≡ revolute_place f a x → (r ≡ Err Range) ↔ (¬ IsAngle x)
 unfolding revolute_place
 revolute_range f a x r e = rw e (go (turn_by x) (turn_answers x))
   where
-    go : (r : Result (Turn Interval) JointFault) → AnswersBy x r → (next r (λ t. sized (place_turned intervals f a t)) ≡ Err Range) ↔ (¬ IsAngle x)
+    go : (r : Result (SineCosine Interval) JointFault) → AnswersBy x r → (next r (λ t. sized (place_turned intervals f a t)) ≡ Err Range) ↔ (¬ IsAngle x)
     go (Ok t) h = (λ k. absurd (sized_alone (place_turned intervals f a t) k), λ n. absurd (h n))
     go (Err e) h = (λ k. h.1, λ n. ap (λ (f : JointFault). Err f) h.0)
 
-pub prismatic_range : (f : Pose Interval) (a : V3 Interval) (d : Interval) (r : Result (Placing Interval) JointFault) → r ≡ prismatic_place f a d → (r ≡ Err Range) ↔ ⊥
+pub prismatic_range : (f : Frame Interval) (a : V3 Interval) (d : Interval) (r : Result (Place Interval) JointFault) → r ≡ prismatic_place f a d → (r ≡ Err Range) ↔ ⊥
 unfolding prismatic_place
 prismatic_range f a d r e = rw e (λ h. sized_alone (place_along intervals f a d) h, λ n. absurd n)

@@ -2,7 +2,7 @@
 use Rattle.std.specs.Prelude.{ℕ, Result, List}
 use Rattle.rb_num.specs.Interval.{Interval}
 use Rattle.rb_num.specs.Arith.{intervals}
-use Rattle.rb_spatial.specs.Tables.{Spatial, Placing}
+use Rattle.rb_frac.specs.Spatial.{Spatial, Place}
 use Rattle.rb_trig.specs.Sine.{IsAngle}
 use Rattle.rb_flat.specs.Joint as Flat
 use Rattle.rb_flat.specs.Joint.{Kind, JointChoice}
@@ -23,7 +23,7 @@ HasChoice (Fixed m) c = HasFrame m.frame c
 HasChoice (Revolute m) c = HasFrameAndAxis m.frame m.axis c
 HasChoice (Prismatic m) c = HasFrameAndAxis m.frame m.axis c
 
-abbrev pub any_place : AnyJoint → List Interval → Result (Placing Interval) JointFault
+abbrev pub any_place : AnyJoint → List Interval → Result (Place Interval) JointFault
 any_place (Fixed m) q = fixed_place m.frame
 any_place (Revolute m) q = revolute_place m.frame m.axis (first q)
 any_place (Prismatic m) q = prismatic_place m.frame m.axis (first q)

@@ -3,11 +3,13 @@ use Rattle.std.specs.Prelude.{Result, Ok, Err, List, [], ◌∷◌}
 use Rattle.rb_frac.specs.Ops.{V3}
 use Rattle.rb_num.specs.declared.interval.NumFault.{NumFault}
 use Rattle.rb_num.specs.Interval.{Interval}
-use Rattle.rb_num.specs.Arith.{intervals, then}
-use Rattle.rb_spatial.specs.Tables.{Symmetric, Placing, Pose, none}
+use Rattle.rb_num.specs.Arith.{intervals}
+use Rattle.rb_result.specs.Steps.{◌>>=◌}
+use Rattle.rb_frac.specs.Tables.{Symmetric}
+use Rattle.rb_frac.specs.Spatial.{Place, Frame, SineCosine}
+use Rattle.rb_spatial.specs.Vectors.{none}
 use Rattle.rb_trig.specs.declared.sine.AngleRange.{AngleRange}
 use Rattle.rb_trig.specs.Sine.{sin_cos_of}
-use Rattle.rb_flat.specs.Tables.{Turn}
 use Rattle.rb_joint.specs.declared.faults.JointFault.{JointFault}
 use Rattle.rb_joint.specs.declared.faults.JointFault.TheVariants.{Range, Size}
 use Rattle.rb_joint.specs.Rules.{rotation, axis_products, place_fixed, place_turned, place_along}
@@ -22,16 +24,16 @@ abbrev pub sized : {A : Type 0} → Result A NumFault → Result A JointFault
 sized (Ok x) = Ok x
 sized (Err e) = Err Size
 
-abbrev pub as_turn : Result (Interval × Interval) AngleRange → Result (Turn Interval) JointFault
+abbrev pub as_turn : Result (Interval × Interval) AngleRange → Result (SineCosine Interval) JointFault
 as_turn (Ok p) = Ok (record { sin = p.0; cos = p.1 })
 as_turn (Err e) = Err Range
 
 -- the turn by an angle
-unfoldable pub turn_by : Interval → Result (Turn Interval) JointFault
+unfoldable pub turn_by : Interval → Result (SineCosine Interval) JointFault
 turn_by x = as_turn (sin_cos_of x)
 
 -- the frame with this origin, turned by roll, pitch and yaw
-unfoldable pub frame_by : V3 Interval → V3 Interval → Result (Pose Interval) JointFault
+unfoldable pub frame_by : V3 Interval → V3 Interval → Result (Frame Interval) JointFault
 frame_by xyz rpy =
     next (turn_by rpy.x) (λ roll.
     next (turn_by rpy.y) (λ pitch.
@@ -43,22 +45,22 @@ abbrev pub first : List Interval → Interval
 first [] = none
 first (x ∷ xs) = x
 
-unfoldable pub fixed_place : Pose Interval → Result (Placing Interval) JointFault
+unfoldable pub fixed_place : Frame Interval → Result (Place Interval) JointFault
 fixed_place f = sized (place_fixed intervals f)
 
-unfoldable pub revolute_place : Pose Interval → V3 Interval → Interval → Result (Placing Interval) JointFault
+unfoldable pub revolute_place : Frame Interval → V3 Interval → Interval → Result (Place Interval) JointFault
 revolute_place f a x = next (turn_by x) (λ t. sized (place_turned intervals f a t))
 
-unfoldable pub prismatic_place : Pose Interval → V3 Interval → Interval → Result (Placing Interval) JointFault
+unfoldable pub prismatic_place : Frame Interval → V3 Interval → Interval → Result (Place Interval) JointFault
 prismatic_place f a d = sized (place_along intervals f a d)
 
 -- a frame and an axis in it
 pub record Axial : Type 0 where
-  pub frame : Pose Interval
+  pub frame : Frame Interval
   pub axis : V3 Interval
 
 -- both, refused where a product of two parts of the axis is
-unfoldable pub axial_by : Pose Interval → V3 Interval → Result Axial NumFault
+unfoldable pub axial_by : Frame Interval → V3 Interval → Result Axial NumFault
 axial_by f a = then (axis_products intervals a) (λ p. Ok (record { frame = f; axis = a }))
 
 -- the products of an axis, where they are within the limit

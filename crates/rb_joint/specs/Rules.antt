@@ -2,35 +2,36 @@
 use Rattle.std.specs.Prelude.{[], ◌∷◌}
 use Rattle.rb_frac.specs.Ops.{V3}
 use Rattle.rb_num.specs.Arith.{Arith}
-use Rattle.rb_spatial.specs.Tables.{Table, Symmetric, Spatial, Placing, Pose, transpose}
-use Rattle.rb_spatial.specs.Rules.{three, three_rows, six, product}
-use Rattle.rb_flat.specs.Tables.{Turn, Quaternion}
+use Rattle.rb_frac.specs.Tables.{Table, Symmetric, transpose}
+use Rattle.rb_frac.specs.Spatial.{Spatial, Place, Frame, SineCosine, Quaternion}
+use Rattle.rb_spatial.specs.Motions.{three, three_rows, six}
+use Rattle.rb_spatial.specs.Carrying.{product}
 
 module _ (R : Arith) where
   -- ---- the turn of roll, pitch and yaw: Rz Ry Rx
   -- its rows, where t1 and t2 are the sine of pitch times the sine and the cosine of roll
-  unfoldable pub rotation_x : Turn R.N → Turn R.N → Turn R.N → R.N → R.N → R.M (V3 R.N)
+  unfoldable pub rotation_x : SineCosine R.N → SineCosine R.N → SineCosine R.N → R.N → R.N → R.M (V3 R.N)
   rotation_x roll pitch yaw t1 t2 =
       three R
       (R.dot ((yaw.cos, pitch.cos) ∷ []))
       (R.dot ((yaw.cos, t1) ∷ (R.neg yaw.sin, roll.cos) ∷ []))
       (R.dot ((yaw.cos, t2) ∷ (yaw.sin, roll.sin) ∷ []))
 
-  unfoldable pub rotation_y : Turn R.N → Turn R.N → Turn R.N → R.N → R.N → R.M (V3 R.N)
+  unfoldable pub rotation_y : SineCosine R.N → SineCosine R.N → SineCosine R.N → R.N → R.N → R.M (V3 R.N)
   rotation_y roll pitch yaw t1 t2 =
       three R
       (R.dot ((yaw.sin, pitch.cos) ∷ []))
       (R.dot ((yaw.sin, t1) ∷ (yaw.cos, roll.cos) ∷ []))
       (R.dot ((yaw.sin, t2) ∷ (R.neg yaw.cos, roll.sin) ∷ []))
 
-  unfoldable pub rotation_z : Turn R.N → Turn R.N → R.M (V3 R.N)
+  unfoldable pub rotation_z : SineCosine R.N → SineCosine R.N → R.M (V3 R.N)
   rotation_z roll pitch =
       three R
       (R.ret (R.neg pitch.sin))
       (R.dot ((pitch.cos, roll.sin) ∷ []))
       (R.dot ((pitch.cos, roll.cos) ∷ []))
 
-  unfoldable pub rotation : Turn R.N → Turn R.N → Turn R.N → R.M (Table R.N)
+  unfoldable pub rotation : SineCosine R.N → SineCosine R.N → SineCosine R.N → R.M (Table R.N)
   rotation roll pitch yaw =
       R.bind (R.dot ((pitch.sin, roll.sin) ∷ [])) (λ t1.
       R.bind (R.dot ((pitch.sin, roll.cos) ∷ [])) (λ t2.
@@ -70,12 +71,12 @@ module _ (R : Arith) where
       (R.dot ((k, p.yz) ∷ (a.x, s) ∷ []))
       (R.dot ((R.one, R.one) ∷ (R.neg k, p.zz) ∷ []))
 
-  unfoldable pub turn_about : V3 R.N → Symmetric R.N → Turn R.N → R.M (Table R.N)
+  unfoldable pub turn_about : V3 R.N → Symmetric R.N → SineCosine R.N → R.M (Table R.N)
   turn_about a p t =
       R.bind (R.sub R.one t.cos) (λ k. three_rows R (about_x a p t.sin k) (about_y a p t.sin k) (about_z a p t.sin k))
 
   -- about the third axis of a frame
-  unfoldable pub turn_level : Turn R.N → Table R.N
+  unfoldable pub turn_level : SineCosine R.N → Table R.N
   turn_level t = record {
     x = record { x = t.cos; y = R.neg t.sin; z = R.zero };
     y = record { x = t.sin; y = t.cos; z = R.zero };
@@ -113,7 +114,7 @@ module _ (R : Arith) where
 
   -- ---- places
   -- a point of a frame, seen from outside
-  unfoldable pub outside : Pose R.N → V3 R.N → R.M (V3 R.N)
+  unfoldable pub outside : Frame R.N → V3 R.N → R.M (V3 R.N)
   outside f p =
       three R
       (R.dot ((f.at.x, R.one) ∷ (f.rot.x.x, p.x) ∷ (f.rot.x.y, p.y) ∷ (f.rot.x.z, p.z) ∷ []))
@@ -121,12 +122,12 @@ module _ (R : Arith) where
       (R.dot ((f.at.z, R.one) ∷ (f.rot.z.x, p.x) ∷ (f.rot.z.y, p.y) ∷ (f.rot.z.z, p.z) ∷ []))
 
   -- the place of a joint that turns by `turn` and shifts by p in its frame
-  unfoldable pub place_of : Pose R.N → Table R.N → V3 R.N → R.M (Placing R.N)
+  unfoldable pub place_of : Frame R.N → Table R.N → V3 R.N → R.M (Place R.N)
   place_of f turn p =
       R.bind (product R f.rot turn) (λ t. R.bind (outside f p) (λ r. R.ret (record { e = transpose t; r = r })))
 
   -- the place of one that shifts only
-  unfoldable pub place_shifted : Pose R.N → V3 R.N → R.M (Placing R.N)
+  unfoldable pub place_shifted : Frame R.N → V3 R.N → R.M (Place R.N)
   place_shifted f p = R.bind (outside f p) (λ r. R.ret (record { e = transpose f.rot; r = r }))
 
   -- ---- the places of the joint models
@@ -137,13 +138,13 @@ module _ (R : Arith) where
   unfoldable pub shift_along : V3 R.N → R.N → R.M (V3 R.N)
   shift_along a d = three R (R.dot ((a.x, d) ∷ [])) (R.dot ((a.y, d) ∷ [])) (R.dot ((a.z, d) ∷ []))
 
-  unfoldable pub place_fixed : Pose R.N → R.M (Placing R.N)
+  unfoldable pub place_fixed : Frame R.N → R.M (Place R.N)
   place_fixed f = place_shifted f origin
 
-  unfoldable pub place_turned : Pose R.N → V3 R.N → Turn R.N → R.M (Placing R.N)
+  unfoldable pub place_turned : Frame R.N → V3 R.N → SineCosine R.N → R.M (Place R.N)
   place_turned f a t = R.bind (axis_products a) (λ p. R.bind (turn_about a p t) (λ turn. place_of f turn origin))
 
-  unfoldable pub place_along : Pose R.N → V3 R.N → R.N → R.M (Placing R.N)
+  unfoldable pub place_along : Frame R.N → V3 R.N → R.N → R.M (Place R.N)
   place_along f a d = R.bind (shift_along a d) (λ p. place_shifted f p)
 
   -- ---- their columns

@@ -1,10 +1,10 @@
 -- Angles, quaternions and entries that are related one by one, and the tables of the equations as those of the rules.
 use Rattle.std.specs.Prelude.{List, [], ◌∷◌}
-use Rattle.rb_spatial.specs.Tables.{Table, Placing, Pose, Spatial}
+use Rattle.rb_frac.specs.Tables.{Table}
+use Rattle.rb_frac.specs.Spatial.{Place, Frame, Spatial, SineCosine, Quaternion}
 use Rattle.rb_flat.specs.Tables as Flat
-use Rattle.rb_flat.specs.Tables.{Turn, Quaternion}
 
-pub record Turns {A B : Type 0} (rel : A → B → Type 0) (s : Turn A) (t : Turn B) : Type 0 where
+pub record Turns {A B : Type 0} (rel : A → B → Type 0) (s : SineCosine A) (t : SineCosine B) : Type 0 where
   pub sin : rel s.sin t.sin
   pub cos : rel s.cos t.cos
 
@@ -24,10 +24,10 @@ Entries rel (x ∷ xs) [] = ⊥
 abbrev pub table : {A : Type 0} → Flat.Table A → Table A
 table t = record { x = t.x; y = t.y; z = t.z }
 
-abbrev pub pose : {A : Type 0} → Flat.Frame A → Pose A
+abbrev pub pose : {A : Type 0} → Flat.Frame A → Frame A
 pose f = record { rot = table f.rot; at = f.at }
 
-abbrev pub placing : {A : Type 0} → Flat.Place A → Placing A
+abbrev pub placing : {A : Type 0} → Flat.Place A → Place A
 placing p = record { e = table p.e; r = p.r }
 
 abbrev pub spatial : {A : Type 0} → Flat.Motion A → Spatial A
@@ -37,5 +37,5 @@ spatial m = record { lin = m.lin; ang = m.ang }
 abbrev pub rows : {A : Type 0} → Table A → Flat.Table A
 rows t = record { x = t.x; y = t.y; z = t.z }
 
-abbrev pub frame : {A : Type 0} → Pose A → Flat.Frame A
+abbrev pub frame : {A : Type 0} → Frame A → Flat.Frame A
 frame f = record { rot = rows f.rot; at = f.at }

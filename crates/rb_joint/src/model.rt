@@ -1,6 +1,6 @@
 ghost use Rattle.std.specs.Prelude.{◌≡◌, ℕ, ◌<◌, Result, List, length, IfOk};
 ghost use Rattle.rb_num.specs.Interval.{Interval};
-ghost use Rattle.rb_spatial.specs.Tables.{Spatial, Placing};
+ghost use Rattle.rb_frac.specs.Spatial.{Spatial, Place};
 ghost use Rattle.rb_flat.specs.Joint.{Kind, JointChoice, entry_count, column_count};
 ghost use Rattle.rb_joint.specs.declared.faults.JointFault.{JointFault};
 ghost use Rattle.rb_joint.specs.Choices.{EnclosesPlace, EnclosesColumn};
@@ -28,7 +28,7 @@ pub trait JointModel {
     // whether the frame and the axis of a choice are among those of the model
     ghost has: { Self → JointChoice → Type 0 };
 
-    ghost place_at: { Self → List Interval → Result (Placing Interval) JointFault };
+    ghost place_at: { Self → List Interval → Result (Place Interval) JointFault };
 
     ghost column_at: { Self → ℕ → Spatial Interval };
 

@@ -103,7 +103,7 @@ impl Model for Revolute {
     ghost use Rattle.rb_num.specs.declared.interval.NumFault.{NumFault};
     ghost use Rattle.rb_num.specs.Interval.{Interval};
     ghost use Rattle.rb_num.specs.Arith.{intervals};
-    ghost use Rattle.rb_spatial.specs.Tables.{Symmetric};
+    ghost use Rattle.rb_frac.specs.Tables.{Symmetric};
     ghost use Rattle.rb_joint.specs.Rules.{axis_products};
     ghost use Rattle.rb_joint.specs.Models.{Axial, kept};
 

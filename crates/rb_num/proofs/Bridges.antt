@@ -4,13 +4,14 @@ use Rattle.std.proofs.Common.{◌≡◌, ℕ, List, [], ◌∷◌, Result, Ok, E
 use Rattle.std.proofs.lemmas.Int.{ints}
 use mathlib.Core.Path.{ap₂}
 use Rattle.rb_num.specs.declared.interval.NumFault.{NumFault}
+use Rattle.rb_result.specs.Steps.{◌>>=◌}
 use Rattle.rb_num.proofs.Refused.{if_ok, if_added, if_subtracted, if_divided}
 use Rattle.rb_frac.specs.Ops.{Ops}
 use Rattle.rb_frac.specs.Frac as F
 use Rattle.rb_frac.specs.Frac.{Frac, fracs}
 use Rattle.rb_frac.proofs.Ring.{expr, eval}
 use Rattle.rb_frac.proofs.Rational.{ℚ, inv, cls_of_quot, ◌*ℚ◌, qo, cls, cls-add, cls-mul, cls-neg, cls-zero, cls-one}
-use Rattle.rb_num.specs.Arith.{Arith, Field, interval_field, fraction_field, then, intervals, plain, fractions}
+use Rattle.rb_num.specs.Arith.{Arith, Field, interval_field, fraction_field, intervals, plain, fractions}
 use Rattle.rb_frac.specs.Pairs.{dot, PairsRelate}
 use Rattle.rb_num.specs.Fraction.{LiesIn}
 use Rattle.rb_num.proofs.Fractions.{dot_lies, neg_lies, add_lies, sub_lies, quot_lies}
@@ -79,7 +80,7 @@ abbrev pub to_fractions : (ρ : ℕ → ℚ) → Relates expressions fractions
 to_fractions ρ = agree (eval_keeps qo ρ) cls_keeps
 
 -- ---- fractions that lie in intervals
-pub bind_lies : {A B C D : Type 0} (r : A → B → Type 0) (s : C → D → Type 0) (m : A) (n : Result B NumFault) (f : A → C) (g : B → Result D NumFault) → IfOk n (λ y. r m y) → ((a : A) (b : B) → r a b → IfOk (g b) (λ y. s (f a) y)) → IfOk (then n g) (λ y. s (f m) y)
+pub bind_lies : {A B C D : Type 0} (r : A → B → Type 0) (s : C → D → Type 0) (m : A) (n : Result B NumFault) (f : A → C) (g : B → Result D NumFault) → IfOk n (λ y. r m y) → ((a : A) (b : B) → r a b → IfOk (g b) (λ y. s (f a) y)) → IfOk (n >>= g) (λ y. s (f m) y)
 bind_lies r s m (Ok y) f g h k = k m y h
 bind_lies r s m (Err e) f g h k = tt
 

@@ -1,12 +1,11 @@
 -- The least and the greatest of the four products of ends, as `product_ends` finds them.
-use Rattle.std.proofs.Common.{◌≡◌, ℤ, ◌*ℤ◌, ap, ◌∙◌, sym, subst, refl, to_z, of_z}
+use Rattle.std.proofs.Common.{◌≡◌, ℤ, ◌*ℤ◌, ap, ◌∙◌, sym, subst, refl, to_z, of_z, arith}
 use mir.Syntax.{w128}
 use mir.Val.{SFits}
 use Rattle.std.specs.Int.{int_min, int_max}
 use Rattle.rb_num.specs.Interval.{Interval, IsWithin}
 use Rattle.rb_num.specs.Dot.{least_product, greatest_product}
 use Rattle.rb_num.proofs.Ends.{read, both}
-use Rattle.std.proofs.Common.{arith}
 use Rattle.std.proofs.lemmas.Int.{ints}
 
 pub same_product : {a b c d : ℤ} → a ≡ c → b ≡ d → a *ℤ b ≡ c *ℤ d

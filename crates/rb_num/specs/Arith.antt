@@ -1,11 +1,12 @@
 -- The numbers that a rule is over: intervals, whose operations may be refused, or fractions, which are exact. A rule is defined once over
 -- `Arith`, and read at `intervals` for the value that the code computes, and at `fractions` for the value that it encloses.
-use Rattle.std.specs.Prelude.{pos, List, Result, Ok, Err}
+use Rattle.std.specs.Prelude.{pos, List, Result, Ok}
+use Rattle.rb_result.specs.Steps.{◌>>=◌}
 use Rattle.rb_num.specs.declared.interval.NumFault.{NumFault}
 use Rattle.rb_num.specs.Interval.{Interval, interval, negative_of, grid}
 use Rattle.rb_num.specs.Dot.{iv_dot}
 use Rattle.rb_num.specs.Refusing.{iv_add, iv_sub, iv_div}
-use Rattle.rb_frac.specs.Ops.{Ops}
+use Rattle.rb_frac.specs.Ops.{Ops, Signs}
 use Rattle.rb_frac.specs.Pairs.{dot}
 use Rattle.rb_frac.specs.Frac.{fracs, quot}
 
@@ -25,10 +26,9 @@ pub record Arith : Type 1 where
   pub ret : {A : Type 0} → A → M A
   pub bind : {A B : Type 0} → M A → (A → M B) → M B
 
--- the first refusal, or the answer of the second step
-abbrev pub then : {A B : Type 0} → Result A NumFault → (A → Result B NumFault) → Result B NumFault
-then (Ok x) f = f x
-then (Err e) f = Err e
+-- what needs neither sum nor product
+abbrev pub signs_of : (R : Arith) → Signs R.N
+signs_of R = record { neg = R.neg; nul = R.zero; one = R.one }
 
 -- intervals, with the operations of the code
 abbrev pub intervals : Arith
@@ -42,7 +42,7 @@ intervals = record {
   one = interval (pos grid) (pos grid);
   zero = interval (pos 0) (pos 0);
   ret = λ x. Ok x;
-  bind = λ r f. then r f;
+  bind = λ r f. r >>= f;
 }
 
 -- the numbers of `Ops`, whose steps are never refused

@@ -8,10 +8,10 @@ use Rattle.rb_frac.proofs.Ring.{expr}
 use Rattle.rb_frac.proofs.Hom.{frac_ring}
 use Rattle.rb_num.specs.Arith.{fractions}
 use Rattle.rb_num.proofs.Bridges.{expressions}
-use Rattle.rb_spatial.specs.Tables.{coordinate, entry}
-use Rattle.rb_spatial.specs.Rules.{mul_both, times, less_vector, less_table, less_symmetric, less_outer}
+use Rattle.rb_frac.specs.Spatial.{coordinate, entry}
+use Rattle.rb_spatial.specs.Inertias.{mul_both, times, less_vector, less_table, less_symmetric, less_outer}
 use Rattle.rb_spatial.specs.Laws.{EntryIsSymmetric, TimesIsRows, LessOuterEntry}
-use Rattle.rb_spatial.proofs.Vars.{spatial, inertia, of_spatial, of_inertia, at}
+use Rattle.rb_frac.proofs.Variables.{spatial, inertia, of_spatial, of_inertia, at}
 
 -- what holds at each of the six holds below six
 pub below_six : (P : ℕ → Type 0) → P 0 → P 1 → P 2 → P 3 → P 4 → P 5 → (k : ℕ) → k < 6 → P k

@@ -1,11 +1,13 @@
 -- Each rule keeps each relation that the operations keep.
 use Rattle.std.proofs.Common.{ℕ, ◌-◌, ◌==◌, nat_lt, Bool, true, false, if◌then◌else◌}
 use Rattle.rb_frac.specs.Ops.{V3}
-use Rattle.rb_num.specs.Arith.{Arith}
+use Rattle.rb_num.specs.Arith.{Arith, signs_of}
 use Rattle.rb_num.proofs.Relates.{Relates, Met, dot_met, add_met, ret_met, then_met}
-use Rattle.rb_spatial.specs.Tables.{Table, Symmetric, Spatial, Placing, Body, Inertia, transpose, full, component, row, entry}
-use Rattle.rb_spatial.specs.Relate.{Vectors, Tables, Symmetrics, Spatials, Placings, Bodies, Inertias}
-use Rattle.rb_spatial.specs.Rules.{three, three_rows, six, two, blocks, cross3, cross_twice, plus_cross, cross_table, mul, mul_both, row_mul, product, upper_product, apply, apply_dual, cross, cross_dual, power, table, times, sum_vector, sum_table, sum_symmetric, sum, less, less_vector, less_table, less_symmetric, less_outer, less_row, less_product, corrected, correct, turn_symmetric, turn_table, carry}
+use Rattle.rb_frac.specs.Tables.{Table, Symmetric, transpose, full, component, row, Vectors, Tables, Symmetrics, cross_table}
+use Rattle.rb_frac.specs.Spatial.{Spatial, Place, BodyInertia, Inertia, entry, Spatials, Places, BodyInertias, Inertias}
+use Rattle.rb_spatial.specs.Motions.{three, three_rows, six, two, multiple, sum_spatial, cross3, cross_twice, plus_cross, mul, apply, apply_dual, cross, cross_dual, power, sum_vector}
+use Rattle.rb_spatial.specs.Inertias.{blocks, mul_both, table, times, sum_table, sum_symmetric, sum, less, less_vector, less_table, less_symmetric, less_outer}
+use Rattle.rb_spatial.specs.Carrying.{row_mul, product, upper_product, less_row, less_product, corrected, correct, turn_symmetric, turn_table, carry}
 
 -- a choice of related values
 choice : {A B : Type 0} (rel : A → B → Type 0) (b : Bool) {x y : A} {x' y' : B} → rel x x' → rel y y' → rel (if b then x else y) (if b then x' else y')
@@ -49,7 +51,7 @@ module _ {R Q : Arith} (K : Relates R Q) where
       (choice K.rel (nat_lt c 3) (component_rel (row_rel (full_rel h.a) r) c) (component_rel (row_rel h.b r) (c - 3)))
       (choice K.rel (nat_lt c 3) (component_rel (row_rel (transpose_rel h.b) (r - 3)) c) (component_rel (row_rel (full_rel h.c) (r - 3)) (c - 3)))
 
-  pub cross_table_rel : {u : V3 R.N} {u' : V3 Q.N} → Vectors K.rel u u' → Tables K.rel (cross_table R u) (cross_table Q u')
+  pub cross_table_rel : {u : V3 R.N} {u' : V3 Q.N} → Vectors K.rel u u' → Tables K.rel (cross_table (signs_of R) u) (cross_table (signs_of Q) u')
   cross_table_rel h = search (h, K.neg, K.zero)
 
   pub cross3_met : {u w : V3 R.N} {u' w' : V3 Q.N} → Vectors K.rel u u' → Vectors K.rel w w' → Met K (Vectors K.rel) (cross3 R u w) (cross3 Q u' w')
@@ -68,6 +70,18 @@ module _ {R Q : Arith} (K : Relates R Q) where
   unfolding mul
   mul_met ht hv = search (three_met, dot_met K) depth 9
 
+  pub sum_vector_met : {u w : V3 R.N} {u' w' : V3 Q.N} → Vectors K.rel u u' → Vectors K.rel w w' → Met K (Vectors K.rel) (sum_vector R u w) (sum_vector Q u' w')
+  unfolding sum_vector
+  sum_vector_met hu hw = three_met (add_met K hu.x hw.x) (add_met K hu.y hw.y) (add_met K hu.z hw.z)
+
+  pub multiple_met : {k : R.N} {v : V3 R.N} {k' : Q.N} {v' : V3 Q.N} → K.rel k k' → Vectors K.rel v v' → Met K (Vectors K.rel) (multiple R k v) (multiple Q k' v')
+  unfolding multiple
+  multiple_met hk hv = search (three_met, dot_met K) depth 9
+
+  pub sum_spatial_met : {a b : Spatial R.N} {a' b' : Spatial Q.N} → Spatials K.rel a a' → Spatials K.rel b b' → Met K (Spatials K.rel) (sum_spatial R a b) (sum_spatial Q a' b')
+  unfolding sum_spatial
+  sum_spatial_met ha hb = two_met (sum_vector_met ha.lin hb.lin) (sum_vector_met ha.ang hb.ang)
+
   pub cross_met : {a b : Spatial R.N} {a' b' : Spatial Q.N} → Spatials K.rel a a' → Spatials K.rel b b' → Met K (Spatials K.rel) (cross R a b) (cross Q a' b')
   unfolding cross
   cross_met ha hb = two_met (cross_twice_met ha.ang hb.lin ha.lin hb.ang) (cross3_met ha.ang hb.ang)
@@ -76,12 +90,12 @@ module _ {R Q : Arith} (K : Relates R Q) where
   unfolding cross_dual
   cross_dual_met ha hf = two_met (cross3_met ha.ang hf.lin) (cross_twice_met ha.ang hf.ang ha.lin hf.lin)
 
-  pub apply_met : {x : Placing R.N} {m : Spatial R.N} {x' : Placing Q.N} {m' : Spatial Q.N} → Placings K.rel x x' → Spatials K.rel m m' → Met K (Spatials K.rel) (apply R x m) (apply Q x' m')
+  pub apply_met : {x : Place R.N} {m : Spatial R.N} {x' : Place Q.N} {m' : Spatial Q.N} → Places K.rel x x' → Spatials K.rel m m' → Met K (Spatials K.rel) (apply R x m) (apply Q x' m')
   unfolding apply
   apply_met hx hm =
       then_met K (plus_cross_met hm.lin hm.ang hx.r) (λ _ _ ht. two_met (mul_met hx.e ht) (mul_met hx.e hm.ang))
 
-  pub apply_dual_met : {x : Placing R.N} {f : Spatial R.N} {x' : Placing Q.N} {f' : Spatial Q.N} → Placings K.rel x x' → Spatials K.rel f f' → Met K (Spatials K.rel) (apply_dual R x f) (apply_dual Q x' f')
+  pub apply_dual_met : {x : Place R.N} {f : Spatial R.N} {x' : Place Q.N} {f' : Spatial Q.N} → Places K.rel x x' → Spatials K.rel f f' → Met K (Spatials K.rel) (apply_dual R x f) (apply_dual Q x' f')
   unfolding apply_dual
   apply_dual_met hx hf =
       then_met K (mul_met (transpose_rel hx.e) hf.lin) (λ _ _ hg.
@@ -101,13 +115,9 @@ module _ {R Q : Arith} (K : Relates R Q) where
   times_met hi hm =
       two_met (mul_both_met (full_rel hi.a) hi.b hm.lin hm.ang) (mul_both_met (transpose_rel hi.b) (full_rel hi.c) hm.lin hm.ang)
 
-  pub table_rel : {i : Body R.N} {i' : Body Q.N} → Bodies K.rel i i' → Inertias K.rel (table R i) (table Q i')
+  pub table_rel : {i : BodyInertia R.N} {i' : BodyInertia Q.N} → BodyInertias K.rel i i' → Inertias K.rel (table R i) (table Q i')
   unfolding table
   table_rel h = record { a = search (h, K.zero); b = transpose_rel (cross_table_rel h.first); c = h.six }
-
-  sum_vector_met : {u w : V3 R.N} {u' w' : V3 Q.N} → Vectors K.rel u u' → Vectors K.rel w w' → Met K (Vectors K.rel) (sum_vector R u w) (sum_vector Q u' w')
-  unfolding sum_vector
-  sum_vector_met hu hw = three_met (add_met K hu.x hw.x) (add_met K hu.y hw.y) (add_met K hu.z hw.z)
 
   sum_table_met : {s t : Table R.N} {s' t' : Table Q.N} → Tables K.rel s s' → Tables K.rel t t' → Met K (Tables K.rel) (sum_table R s t) (sum_table Q s' t')
   unfolding sum_table
@@ -187,7 +197,7 @@ module _ {R Q : Arith} (K : Relates R Q) where
   unfolding turn_table
   turn_table_met he hb = then_met K (product_met hb he) (λ _ _ h. product_met (transpose_rel he) h)
 
-  pub carry_met : {x : Placing R.N} {i : Inertia R.N} {x' : Placing Q.N} {i' : Inertia Q.N} → Placings K.rel x x' → Inertias K.rel i i' → Met K (Inertias K.rel) (carry R x i) (carry Q x' i')
+  pub carry_met : {x : Place R.N} {i : Inertia R.N} {x' : Place Q.N} {i' : Inertia Q.N} → Places K.rel x x' → Inertias K.rel i i' → Met K (Inertias K.rel) (carry R x i) (carry Q x' i')
   unfolding carry
   carry_met hx hi =
       then_met K (turn_symmetric_met hx.e hi.a) (λ _ _ ha.

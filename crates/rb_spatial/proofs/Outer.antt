@@ -6,10 +6,10 @@ use Rattle.rb_frac.proofs.Rational.{◌+ℚ◌, ◌*ℚ◌, neg_ℚ, cls, sound,
 use Rattle.rb_frac.proofs.Hom.{cls_of_add, cls_of_mul, cls_of_neg}
 use Rattle.rb_num.specs.Arith.{fractions}
 use Rattle.rb_num.proofs.Bridges.{Agree, to_same}
-use Rattle.rb_spatial.specs.Tables.{Table, Symmetric, Spatial, Inertia}
-use Rattle.rb_spatial.specs.Relate.{Vectors, Tables, Symmetrics, Spatials, Inertias}
-use Rattle.rb_spatial.specs.Rules.{times}
-use Rattle.rb_spatial.specs.Flat.{plus, scaled, combined}
+use Rattle.rb_frac.specs.Tables.{Table, Symmetric, Vectors, Tables, Symmetrics}
+use Rattle.rb_frac.specs.Spatial.{Spatial, Inertia, Spatials, Inertias}
+use Rattle.rb_spatial.specs.Inertias.{times}
+use Rattle.rb_frac.specs.Mechanics.{plus, scaled, combined}
 use Rattle.rb_spatial.specs.Laws.{LessOuterTimes}
 use Rattle.rb_spatial.proofs.Keep.{power_met, times_met, less_outer_met}
 use Rattle.rb_spatial.proofs.Identities.{less_outer-scaled}

@@ -1,12 +1,13 @@
 ghost use Rattle.std.specs.Prelude.{◌≡◌, IfOk, IfErr};
 ghost use Rattle.rb_num.specs.Arith.{intervals};
 ghost use Rattle.rb_num.specs.Dot.{iv_dot};
-ghost use Rattle.rb_spatial.specs.Encloses.{EnclosesProduct, EnclosesCarry};
-ghost use Rattle.rb_spatial.specs.Rules.{pairs, less_pairs};
-ghost use Rattle.rb_spatial.specs.Rules.{row_mul as row_mul_of, product as product_of, upper_product as upper_product_of};
-ghost use Rattle.rb_spatial.specs.Rules.{less_row as less_row_of, less_product as less_product_of};
-ghost use Rattle.rb_spatial.specs.Rules.{corrected as corrected_of, correct as correct_of};
-ghost use Rattle.rb_spatial.specs.Rules.{turn_symmetric as turn_symmetric_of, turn_table as turn_table_of, carry as carry_of};
+ghost use Rattle.rb_spatial.specs.Carrying.{EnclosesProduct, EnclosesCarry};
+ghost use Rattle.rb_spatial.specs.Motions.{pairs};
+ghost use Rattle.rb_spatial.specs.Carrying.{less_pairs};
+ghost use Rattle.rb_spatial.specs.Carrying.{row_mul as row_mul_of, product as product_of, upper_product as upper_product_of};
+ghost use Rattle.rb_spatial.specs.Carrying.{less_row as less_row_of, less_product as less_product_of};
+ghost use Rattle.rb_spatial.specs.Carrying.{corrected as corrected_of, correct as correct_of};
+ghost use Rattle.rb_spatial.specs.Carrying.{turn_symmetric as turn_symmetric_of, turn_table as turn_table_of, carry as carry_of};
 
 use crate::inertias::Inertia6;
 use crate::motions::Place;
@@ -21,7 +22,7 @@ fn dot_three(u: &Vec3, w: &Vec3) -> Result<Iv, NumFault>
 }
 
 // The vector, as a row, times the table.
-#[tactic(auto, unfolding(crate::specs::Rules::row_mul))]
+#[tactic(auto, unfolding(crate::specs::Carrying::row_mul))]
 fn row_mul(v: &Vec3, t: &Mat3) -> Result<Vec3, NumFault>
     ensures exact { result ≡ row_mul_of intervals v.now t.now }
     ensures size { IfErr result (λ e. e ≡ NumFault.Size) }
@@ -35,7 +36,7 @@ fn row_mul(v: &Vec3, t: &Mat3) -> Result<Vec3, NumFault>
 
 /// The product of two tables, a sum of three products for each entry. It is refused with `Size`
 /// exactly where one of these is.
-#[tactic(auto, unfolding(crate::specs::Rules::product))]
+#[tactic(auto, unfolding(crate::specs::Carrying::product))]
 pub fn product(s: &Mat3, t: &Mat3) -> Result<Mat3, NumFault>
     ensures exact { result ≡ product_of intervals s.now t.now }
     ensures encloses { IfOk result (EnclosesProduct s.now t.now) }
@@ -50,7 +51,7 @@ pub fn product(s: &Mat3, t: &Mat3) -> Result<Mat3, NumFault>
 /// The entries on and above the diagonal of a product that is symmetric, from the columns of its
 /// second factor, each a sum of three products. It is refused with `Size` exactly where one of these
 /// is.
-#[tactic(auto, unfolding(crate::specs::Rules::upper_product))]
+#[tactic(auto, unfolding(crate::specs::Carrying::upper_product))]
 pub fn upper_product(s: &Mat3, columns: &Mat3) -> Result<Sym3, NumFault>
     ensures exact { result ≡ upper_product_of intervals s.now columns.now }
     ensures size { IfErr result (λ e. e ≡ NumFault.Size) }
@@ -85,7 +86,7 @@ fn less_dot(b: Iv, v: &Vec3, w: &Vec3) -> Result<Iv, NumFault>
 }
 
 // b - v t, where v is a row.
-#[tactic(auto, unfolding(crate::specs::Rules::less_row))]
+#[tactic(auto, unfolding(crate::specs::Carrying::less_row))]
 fn less_row(b: &Vec3, v: &Vec3, t: &Mat3) -> Result<Vec3, NumFault>
     ensures exact { result ≡ less_row_of intervals b.now v.now t.now }
     ensures size { IfErr result (λ e. e ≡ NumFault.Size) }
@@ -98,7 +99,7 @@ fn less_row(b: &Vec3, v: &Vec3, t: &Mat3) -> Result<Vec3, NumFault>
 }
 
 // b - a r
-#[tactic(auto, unfolding(crate::specs::Rules::less_product))]
+#[tactic(auto, unfolding(crate::specs::Carrying::less_product))]
 fn less_product(b: &Mat3, a: &Mat3, r: &Mat3) -> Result<Mat3, NumFault>
     ensures exact { result ≡ less_product_of intervals b.now a.now r.now }
     ensures size { IfErr result (λ e. e ≡ NumFault.Size) }
@@ -127,7 +128,7 @@ fn corrected(c: Iv, u: &Vec3, p: &Vec3, w: &Vec3, q: &Vec3) -> Result<Iv, NumFau
 
 // c + r B - B1^T r on and above the diagonal: `b`, `b1` and `columns` have the columns of B, B1
 // and `r`.
-#[tactic(auto, unfolding(crate::specs::Rules::correct))]
+#[tactic(auto, unfolding(crate::specs::Carrying::correct))]
 fn correct(c: &Sym3, r: &Mat3, b: &Mat3, b1: &Mat3, columns: &Mat3) -> Result<Sym3, NumFault>
     ensures exact { result ≡ correct_of intervals c.now r.now b.now b1.now columns.now }
     ensures size { IfErr result (λ e. e ≡ NumFault.Size) }
@@ -149,7 +150,7 @@ fn correct(c: &Sym3, r: &Mat3, b: &Mat3, b1: &Mat3, columns: &Mat3) -> Result<Sy
 }
 
 // e^T (a e) for a symmetric a.
-#[tactic(auto, unfolding(crate::specs::Rules::turn_symmetric))]
+#[tactic(auto, unfolding(crate::specs::Carrying::turn_symmetric))]
 fn turn_symmetric(e: &Mat3, a: &Sym3) -> Result<Sym3, NumFault>
     ensures exact { result ≡ turn_symmetric_of intervals e.now a.now }
     ensures size { IfErr result (λ e. e ≡ NumFault.Size) }
@@ -159,7 +160,7 @@ fn turn_symmetric(e: &Mat3, a: &Sym3) -> Result<Sym3, NumFault>
 }
 
 // e^T (b e)
-#[tactic(auto, unfolding(crate::specs::Rules::turn_table))]
+#[tactic(auto, unfolding(crate::specs::Carrying::turn_table))]
 fn turn_table(e: &Mat3, b: &Mat3) -> Result<Mat3, NumFault>
     ensures exact { result ≡ turn_table_of intervals e.now b.now }
     ensures size { IfErr result (λ e. e ≡ NumFault.Size) }
@@ -174,7 +175,7 @@ fn turn_table(e: &Mat3, b: &Mat3) -> Result<Mat3, NumFault>
 /// With the blocks turned to `a1 = e^T (a e)`, `b1 = e^T (b e)` and `c1 = e^T (c e)`, it has the
 /// blocks `a1`, `b1 - a1 rx` and `c1 + rx (b1 - a1 rx) - b1^T rx`, where `rx` is the table of the
 /// cross product with `r`. It is refused with `Size` exactly where one of its sums is.
-#[tactic(auto, unfolding(crate::specs::Rules::carry))]
+#[tactic(auto, unfolding(crate::specs::Carrying::carry))]
 pub fn carry(x: &Place, i: &Inertia6) -> Result<Inertia6, NumFault>
     ensures exact { result ≡ carry_of intervals x.now i.now }
     ensures encloses { IfOk result (EnclosesCarry x.now i.now) }

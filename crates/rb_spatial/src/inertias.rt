@@ -1,13 +1,15 @@
 ghost use Rattle.std.specs.Prelude.{◌≡◌, ◌<◌, IfOk, IfErr};
 ghost use Rattle.rb_num.specs.Arith.{intervals};
 ghost use Rattle.rb_num.specs.Dot.{iv_dot};
-ghost use Rattle.rb_spatial.specs.Tables.{entry as entry_of, symmetric_of};
-ghost use Rattle.rb_spatial.specs.Encloses.{EnclosesEntry, EnclosesTable, EnclosesTimes, EnclosesSum, EnclosesLessOuter};
-ghost use Rattle.rb_spatial.specs.Rules.{six_pairs, mul_both as mul_both_of, table as table_of_body, times as times_of};
-ghost use Rattle.rb_spatial.specs.Rules.{sum_vector as sum_vector_of, sum_table as sum_table_of, sum_symmetric as sum_symmetric_of, sum as sum_of};
-ghost use Rattle.rb_spatial.specs.Rules.{less as less_of, less_vector as less_vector_of, less_table as less_table_of, less_symmetric as less_symmetric_of, less_outer as less_outer_of};
+ghost use Rattle.rb_frac.specs.Spatial.{entry as entry_of};
+ghost use Rattle.rb_spatial.specs.Vectors.{symmetric_of};
+ghost use Rattle.rb_spatial.specs.Inertias.{EnclosesEntry, EnclosesTable, EnclosesTimes, EnclosesSum, EnclosesLessOuter};
+ghost use Rattle.rb_spatial.specs.Motions.{six_pairs};
+ghost use Rattle.rb_spatial.specs.Inertias.{mul_both as mul_both_of, table as table_of_body, times as times_of};
+ghost use Rattle.rb_spatial.specs.Inertias.{sum_table as sum_table_of, sum_symmetric as sum_symmetric_of, sum as sum_of};
+ghost use Rattle.rb_spatial.specs.Inertias.{less as less_of, less_vector as less_vector_of, less_table as less_table_of, less_symmetric as less_symmetric_of, less_outer as less_outer_of};
 
-use crate::motions::{Force, Motion};
+use crate::motions::{Force, Motion, sum_vector};
 use crate::vectors::{Mat3, Sym3, Vec3};
 use rb_num::{Iv, NumFault, dot};
 use std::marker::Model;
@@ -25,9 +27,10 @@ impl Model for BodyInertia {
     ghost use Rattle.std.specs.Prelude.{◌≡◌, List, length};
     ghost use Rattle.std.proofs.Common.{ap};
     ghost use Rattle.rb_num.specs.Interval.{Interval};
-    ghost use Rattle.rb_spatial.specs.Tables.{Body, symmetric_of, six_of, six_of-symmetric_of};
+    ghost use Rattle.rb_frac.specs.Spatial as S;
+    ghost use Rattle.rb_spatial.specs.Vectors.{symmetric_of, six_of, six_of-symmetric_of};
 
-    ghost Value = { Body Interval };
+    ghost Value = { S.BodyInertia Interval };
 
     ghost view = { λ a. record { mass = a.mass; first = a.first; six = symmetric_of a.six } };
 
@@ -71,7 +74,7 @@ pub struct Inertia6 {
 
 impl Model for Inertia6 {
     ghost use Rattle.rb_num.specs.Interval.{Interval};
-    ghost use Rattle.rb_spatial.specs.Tables.{Inertia};
+    ghost use Rattle.rb_frac.specs.Spatial.{Inertia};
 
     ghost Value = { Inertia Interval };
 
@@ -82,7 +85,7 @@ impl Model for Inertia6 {
 
 impl Inertia6 {
     /// The entry in row `r` and column `c`, from 0.
-    #[tactic(auto, unfolding(crate::specs::Tables::entry))]
+    #[tactic(auto, unfolding(rb_frac::specs::Spatial::entry))]
     pub fn get(&self, r: usize, c: usize) -> Iv
         requires row { r < 6 }
         requires column { c < 6 }
@@ -105,7 +108,7 @@ impl Inertia6 {
 
 /// The table of a body: the mass times the identity, minus the table of the cross product with
 /// the first moment, and the rotational inertia.
-#[tactic(auto, unfolding(crate::specs::Rules::table))]
+#[tactic(auto, unfolding(crate::specs::Inertias::table))]
 pub fn table(i: &BodyInertia) -> Inertia6
     ensures exact { result ≡ table_of_body intervals i.now }
     ensures encloses { EnclosesTable i.now result }
@@ -138,7 +141,7 @@ fn dot_six(u: &Vec3, p: &Vec3, w: &Vec3, q: &Vec3) -> Result<Iv, NumFault>
     ])
 }
 
-#[tactic(auto, unfolding(crate::specs::Rules::mul_both))]
+#[tactic(auto, unfolding(crate::specs::Inertias::mul_both))]
 fn mul_both(s: &Mat3, t: &Mat3, u: &Vec3, w: &Vec3) -> Result<Vec3, NumFault>
     ensures exact { result ≡ mul_both_of intervals s.now t.now u.now w.now }
     ensures size { IfErr result (λ e. e ≡ NumFault.Size) }
@@ -151,7 +154,7 @@ fn mul_both(s: &Mat3, t: &Mat3, u: &Vec3, w: &Vec3) -> Result<Vec3, NumFault>
 
 /// The force of the motion: the table times the vector, a sum of six products for each part. It is
 /// refused with `Size` exactly where one of these is.
-#[tactic(auto, unfolding(crate::specs::Rules::times))]
+#[tactic(auto, unfolding(crate::specs::Inertias::times))]
 pub fn times(i: &Inertia6, m: &Motion) -> Result<Force, NumFault>
     ensures exact { result ≡ times_of intervals i.now m.now }
     ensures encloses { IfOk result (EnclosesTimes i.now m.now) }
@@ -162,18 +165,7 @@ pub fn times(i: &Inertia6, m: &Motion) -> Result<Force, NumFault>
     Ok(Force { lin, ang })
 }
 
-#[tactic(auto, unfolding(crate::specs::Rules::sum_vector))]
-fn sum_vector(u: &Vec3, w: &Vec3) -> Result<Vec3, NumFault>
-    ensures exact { result ≡ sum_vector_of intervals u.now w.now }
-    ensures size { IfErr result (λ e. e ≡ NumFault.Size) }
-{
-    let x = u.x().add(w.x())?;
-    let y = u.y().add(w.y())?;
-    let z = u.z().add(w.z())?;
-    Ok(Vec3::new(x, y, z))
-}
-
-#[tactic(auto, unfolding(crate::specs::Rules::sum_table))]
+#[tactic(auto, unfolding(crate::specs::Inertias::sum_table))]
 fn sum_table(s: &Mat3, t: &Mat3) -> Result<Mat3, NumFault>
     ensures exact { result ≡ sum_table_of intervals s.now t.now }
     ensures size { IfErr result (λ e. e ≡ NumFault.Size) }
@@ -184,7 +176,7 @@ fn sum_table(s: &Mat3, t: &Mat3) -> Result<Mat3, NumFault>
     Ok(Mat3::new(x, y, z))
 }
 
-#[tactic(auto, unfolding(crate::specs::Rules::sum_symmetric))]
+#[tactic(auto, unfolding(crate::specs::Inertias::sum_symmetric))]
 fn sum_symmetric(s: &Sym3, t: &Sym3) -> Result<Sym3, NumFault>
     ensures exact { result ≡ sum_symmetric_of intervals s.now t.now }
     ensures size { IfErr result (λ e. e ≡ NumFault.Size) }
@@ -206,7 +198,7 @@ fn sum_symmetric(s: &Sym3, t: &Sym3) -> Result<Sym3, NumFault>
 }
 
 /// The sum, entry by entry. It is refused with `Size` exactly where one of the entries is.
-#[tactic(auto, unfolding(crate::specs::Rules::sum))]
+#[tactic(auto, unfolding(crate::specs::Inertias::sum))]
 pub fn sum(a: &Inertia6, b: &Inertia6) -> Result<Inertia6, NumFault>
     ensures exact { result ≡ sum_of intervals a.now b.now }
     ensures encloses { IfOk result (EnclosesSum a.now b.now) }
@@ -230,7 +222,7 @@ fn less(i: Iv, u: Iv, w: Iv) -> Result<Iv, NumFault>
     dot(&[(i, Iv::ONE), (u.neg(), w)])
 }
 
-#[tactic(auto, unfolding(crate::specs::Rules::less_vector))]
+#[tactic(auto, unfolding(crate::specs::Inertias::less_vector))]
 fn less_vector(i: &Vec3, u: Iv, w: &Vec3) -> Result<Vec3, NumFault>
     ensures exact { result ≡ less_vector_of intervals i.now u w.now }
     ensures size { IfErr result (λ e. e ≡ NumFault.Size) }
@@ -241,7 +233,7 @@ fn less_vector(i: &Vec3, u: Iv, w: &Vec3) -> Result<Vec3, NumFault>
     Ok(Vec3::new(x, y, z))
 }
 
-#[tactic(auto, unfolding(crate::specs::Rules::less_table))]
+#[tactic(auto, unfolding(crate::specs::Inertias::less_table))]
 fn less_table(i: &Mat3, u: &Vec3, w: &Vec3) -> Result<Mat3, NumFault>
     ensures exact { result ≡ less_table_of intervals i.now u.now w.now }
     ensures size { IfErr result (λ e. e ≡ NumFault.Size) }
@@ -252,7 +244,7 @@ fn less_table(i: &Mat3, u: &Vec3, w: &Vec3) -> Result<Mat3, NumFault>
     Ok(Mat3::new(x, y, z))
 }
 
-#[tactic(auto, unfolding(crate::specs::Rules::less_symmetric))]
+#[tactic(auto, unfolding(crate::specs::Inertias::less_symmetric))]
 fn less_symmetric(i: &Sym3, u: &Vec3, w: &Vec3) -> Result<Sym3, NumFault>
     ensures exact { result ≡ less_symmetric_of intervals i.now u.now w.now }
     ensures size { IfErr result (λ e. e ≡ NumFault.Size) }
@@ -275,7 +267,7 @@ fn less_symmetric(i: &Sym3, u: &Vec3, w: &Vec3) -> Result<Sym3, NumFault>
 
 /// The table less the outer product of `u` and `w`, of which the entries on and above the
 /// diagonal are taken. It is refused with `Size` exactly where one of these is.
-#[tactic(auto, unfolding(crate::specs::Rules::less_outer))]
+#[tactic(auto, unfolding(crate::specs::Inertias::less_outer))]
 pub fn less_outer(i: &Inertia6, u: &Force, w: &Force) -> Result<Inertia6, NumFault>
     ensures exact { result ≡ less_outer_of intervals i.now u.now w.now }
     ensures encloses { IfOk result (EnclosesLessOuter i.now u.now w.now) }

@@ -4,7 +4,7 @@ ghost use Rattle.rb_spatial.specs.Laws.{ApplyIsInBody, ApplyDualIsInParent, Cros
 ghost use Rattle.rb_spatial.specs.Laws.{ApplyDuality, CrossDuality, CrossIsAlternating, TimesIsSymmetric};
 ghost use Rattle.rb_spatial.specs.Laws.{CarryIsCongruence, NewtonEuler, LessOuterTimes, SumIsAdditive};
 ghost use Rattle.rb_spatial.specs.Laws.{EntryIsSymmetric, TimesIsRows, LessOuterEntry};
-ghost use Rattle.rb_spatial.specs.Laws.{ApplyIsLinear, ApplyDualIsLinear, CrossIsLinear, CrossDualIsLinear, TimesIsLinear, PowerIsLinear};
+ghost use Rattle.rb_spatial.specs.Laws.{ApplyIsLinear, ApplyDualIsLinear, CrossIsLinear, CrossDualIsLinear, TimesIsLinear, PowerIsLinear, TableIsLinear, NeededIsLinear};
 
 /// Each rule is its formula of three-dimensional vectors.
 pub fn formulas()
@@ -53,7 +53,9 @@ pub fn outer_product()
     ensures { LessOuterTimes }
 {}
 
-/// Each rule is linear in its last argument, and a product in its inertia too.
+/// Each rule is linear in its last argument, and a product in its inertia too; the momentum of a
+/// body and what the body needs are linear in its ten numbers, which are mass, first moment and
+/// rotational inertia.
 pub fn linearity()
     ensures apply { ApplyIsLinear }
     ensures apply_dual { ApplyDualIsLinear }
@@ -62,4 +64,6 @@ pub fn linearity()
     ensures times { TimesIsLinear }
     ensures sum { SumIsAdditive }
     ensures power { PowerIsLinear }
+    ensures table { TableIsLinear }
+    ensures needed { NeededIsLinear }
 {}

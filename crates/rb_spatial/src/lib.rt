@@ -9,7 +9,10 @@ mod vectors;
 
 pub use carrying::{carry, product, upper_product};
 pub use inertias::{BodyInertia, Inertia6, less_outer, sum, table, times};
-pub use motions::{Force, Frame, Motion, Place, apply, apply_dual, cross, cross_dual, power};
+pub use motions::{
+    Force, Frame, Motion, Place, apply, apply_dual, cross, cross_dual, cross_twice, cross3, mul,
+    multiple, plus_cross, power, sum_forces, sum_motions, sum_vector,
+};
 pub use vectors::{Mat3, Sym3, Vec3};
 
 #[cfg(test)]

@@ -1,8 +1,9 @@
 ghost use Rattle.std.specs.Prelude.{◌≡◌, IfOk, IfErr};
 ghost use Rattle.rb_num.specs.Arith.{intervals};
-ghost use Rattle.rb_spatial.specs.Encloses.{EnclosesApply, EnclosesApplyDual, EnclosesCross, EnclosesCrossDual, EnclosesPower};
-ghost use Rattle.rb_spatial.specs.Rules.{cross3 as cross3_of, cross_twice as cross_twice_of, plus_cross as plus_cross_of, mul as mul_of};
-ghost use Rattle.rb_spatial.specs.Rules.{apply as apply_of, apply_dual as apply_dual_of, cross as cross_of, cross_dual as cross_dual_of, power as power_of};
+ghost use Rattle.rb_spatial.specs.Motions.{EnclosesCross3, EnclosesCrossTwice, EnclosesPlusCross, EnclosesMultiple, EnclosesSumVector, EnclosesMul};
+ghost use Rattle.rb_spatial.specs.Motions.{EnclosesApply, EnclosesApplyDual, EnclosesCross, EnclosesCrossDual, EnclosesPower, EnclosesSumSpatial};
+ghost use Rattle.rb_spatial.specs.Motions.{cross3 as cross3_of, cross_twice as cross_twice_of, plus_cross as plus_cross_of, multiple as multiple_of, sum_vector as sum_vector_of, mul as mul_of};
+ghost use Rattle.rb_spatial.specs.Motions.{apply as apply_of, apply_dual as apply_dual_of, cross as cross_of, cross_dual as cross_dual_of, power as power_of, sum_spatial as sum_spatial_of};
 
 use crate::vectors::{Mat3, Vec3};
 use rb_num::{Iv, NumFault, dot};
@@ -17,9 +18,9 @@ pub struct Motion {
 
 impl Model for Motion {
     ghost use Rattle.rb_num.specs.Interval.{Interval};
-    ghost use Rattle.rb_spatial.specs.Tables.{Spatial};
+    ghost use Rattle.rb_frac.specs.Spatial as S;
 
-    ghost Value = { Spatial Interval };
+    ghost Value = { S.Motion Interval };
 
     ghost view = { λ a. record { lin = a.lin; ang = a.ang } };
 
@@ -35,9 +36,9 @@ pub struct Force {
 
 impl Model for Force {
     ghost use Rattle.rb_num.specs.Interval.{Interval};
-    ghost use Rattle.rb_spatial.specs.Tables.{Spatial};
+    ghost use Rattle.rb_frac.specs.Spatial as S;
 
-    ghost Value = { Spatial Interval };
+    ghost Value = { S.Force Interval };
 
     ghost view = { λ a. record { lin = a.lin; ang = a.ang } };
 
@@ -53,9 +54,9 @@ pub struct Frame {
 
 impl Model for Frame {
     ghost use Rattle.rb_num.specs.Interval.{Interval};
-    ghost use Rattle.rb_spatial.specs.Tables.{Pose};
+    ghost use Rattle.rb_frac.specs.Spatial as S;
 
-    ghost Value = { Pose Interval };
+    ghost Value = { S.Frame Interval };
 
     ghost view = { λ a. record { rot = a.rot; at = a.at } };
 
@@ -72,18 +73,21 @@ pub struct Place {
 
 impl Model for Place {
     ghost use Rattle.rb_num.specs.Interval.{Interval};
-    ghost use Rattle.rb_spatial.specs.Tables.{Placing};
+    ghost use Rattle.rb_frac.specs.Spatial as S;
 
-    ghost Value = { Placing Interval };
+    ghost Value = { S.Place Interval };
 
     ghost view = { λ a. record { e = a.e; r = a.r } };
 
     ghost inverse = { λ v. record { e = v.e; r = v.r } };
 }
 
-#[tactic(auto, unfolding(crate::specs::Rules::cross3))]
-fn cross3(u: &Vec3, w: &Vec3) -> Result<Vec3, NumFault>
+/// The cross product `u x w`. It is refused with `Size` exactly where one of its sums of products
+/// is.
+#[tactic(auto, unfolding(crate::specs::Motions::cross3))]
+pub fn cross3(u: &Vec3, w: &Vec3) -> Result<Vec3, NumFault>
     ensures exact { result ≡ cross3_of intervals u.now w.now }
+    ensures encloses { IfOk result (EnclosesCross3 u.now w.now) }
     ensures size { IfErr result (λ e. e ≡ NumFault.Size) }
 {
     let x = dot(&[(u.y(), w.z()), (u.z().neg(), w.y())])?;
@@ -92,10 +96,12 @@ fn cross3(u: &Vec3, w: &Vec3) -> Result<Vec3, NumFault>
     Ok(Vec3::new(x, y, z))
 }
 
-// u x w + s x t
-#[tactic(auto, unfolding(crate::specs::Rules::cross_twice))]
-fn cross_twice(u: &Vec3, w: &Vec3, s: &Vec3, t: &Vec3) -> Result<Vec3, NumFault>
+/// `u x w + s x t`, one sum of four products for each part. It is refused with `Size` exactly where
+/// one of these is.
+#[tactic(auto, unfolding(crate::specs::Motions::cross_twice))]
+pub fn cross_twice(u: &Vec3, w: &Vec3, s: &Vec3, t: &Vec3) -> Result<Vec3, NumFault>
     ensures exact { result ≡ cross_twice_of intervals u.now w.now s.now t.now }
+    ensures encloses { IfOk result (EnclosesCrossTwice u.now w.now s.now t.now) }
     ensures size { IfErr result (λ e. e ≡ NumFault.Size) }
 {
     let x = dot(&[
@@ -119,10 +125,12 @@ fn cross_twice(u: &Vec3, w: &Vec3, s: &Vec3, t: &Vec3) -> Result<Vec3, NumFault>
     Ok(Vec3::new(x, y, z))
 }
 
-// n + u x w
-#[tactic(auto, unfolding(crate::specs::Rules::plus_cross))]
-fn plus_cross(n: &Vec3, u: &Vec3, w: &Vec3) -> Result<Vec3, NumFault>
+/// `n + u x w`, one sum of three products for each part. It is refused with `Size` exactly where one
+/// of these is.
+#[tactic(auto, unfolding(crate::specs::Motions::plus_cross))]
+pub fn plus_cross(n: &Vec3, u: &Vec3, w: &Vec3) -> Result<Vec3, NumFault>
     ensures exact { result ≡ plus_cross_of intervals n.now u.now w.now }
+    ensures encloses { IfOk result (EnclosesPlusCross n.now u.now w.now) }
     ensures size { IfErr result (λ e. e ≡ NumFault.Size) }
 {
     let x = dot(&[(n.x(), Iv::ONE), (u.y(), w.z()), (u.z().neg(), w.y())])?;
@@ -131,9 +139,39 @@ fn plus_cross(n: &Vec3, u: &Vec3, w: &Vec3) -> Result<Vec3, NumFault>
     Ok(Vec3::new(x, y, z))
 }
 
-#[tactic(auto, unfolding(crate::specs::Rules::mul))]
-fn mul(t: &Mat3, v: &Vec3) -> Result<Vec3, NumFault>
+/// The multiple `k v`, a product for each part. It is refused with `Size` exactly where one of these
+/// is.
+#[tactic(auto, unfolding(crate::specs::Motions::multiple))]
+pub fn multiple(k: Iv, v: &Vec3) -> Result<Vec3, NumFault>
+    ensures exact { result ≡ multiple_of intervals k v.now }
+    ensures encloses { IfOk result (EnclosesMultiple k v.now) }
+    ensures size { IfErr result (λ e. e ≡ NumFault.Size) }
+{
+    let x = dot(&[(k, v.x())])?;
+    let y = dot(&[(k, v.y())])?;
+    let z = dot(&[(k, v.z())])?;
+    Ok(Vec3::new(x, y, z))
+}
+
+/// The sum, part by part. It is refused with `Size` exactly where a part is.
+#[tactic(auto, unfolding(crate::specs::Motions::sum_vector))]
+pub fn sum_vector(u: &Vec3, w: &Vec3) -> Result<Vec3, NumFault>
+    ensures exact { result ≡ sum_vector_of intervals u.now w.now }
+    ensures encloses { IfOk result (EnclosesSumVector u.now w.now) }
+    ensures size { IfErr result (λ e. e ≡ NumFault.Size) }
+{
+    let x = u.x().add(w.x())?;
+    let y = u.y().add(w.y())?;
+    let z = u.z().add(w.z())?;
+    Ok(Vec3::new(x, y, z))
+}
+
+/// The table times the vector, a sum of three products for each part. It is refused with `Size`
+/// exactly where one of these is.
+#[tactic(auto, unfolding(crate::specs::Motions::mul))]
+pub fn mul(t: &Mat3, v: &Vec3) -> Result<Vec3, NumFault>
     ensures exact { result ≡ mul_of intervals t.now v.now }
+    ensures encloses { IfOk result (EnclosesMul t.now v.now) }
     ensures size { IfErr result (λ e. e ≡ NumFault.Size) }
 {
     let (r, s, t) = (t.x(), t.y(), t.z());
@@ -145,7 +183,7 @@ fn mul(t: &Mat3, v: &Vec3) -> Result<Vec3, NumFault>
 
 /// The parent's motion as the body's: `(e (lin + ang x r), e ang)`. It is refused with `Size`
 /// exactly where one of its sums of products is.
-#[tactic(auto, unfolding(crate::specs::Rules::apply))]
+#[tactic(auto, unfolding(crate::specs::Motions::apply))]
 pub fn apply(x: &Place, m: &Motion) -> Result<Motion, NumFault>
     ensures exact { result ≡ apply_of intervals x.now m.now }
     ensures encloses { IfOk result (EnclosesApply x.now m.now) }
@@ -159,7 +197,7 @@ pub fn apply(x: &Place, m: &Motion) -> Result<Motion, NumFault>
 
 /// The body's force as the parent's: `(e^T lin, e^T ang + r x e^T lin)`. It is refused with `Size`
 /// exactly where one of its sums of products is.
-#[tactic(auto, unfolding(crate::specs::Rules::apply_dual))]
+#[tactic(auto, unfolding(crate::specs::Motions::apply_dual))]
 pub fn apply_dual(x: &Place, f: &Force) -> Result<Force, NumFault>
     ensures exact { result ≡ apply_dual_of intervals x.now f.now }
     ensures encloses { IfOk result (EnclosesApplyDual x.now f.now) }
@@ -175,7 +213,7 @@ pub fn apply_dual(x: &Place, f: &Force) -> Result<Force, NumFault>
 /// The product of two motions, which is how `b` changes as it moves along with `a`:
 /// `(a.ang x b.lin + a.lin x b.ang, a.ang x b.ang)`. It is refused with `Size` exactly where one of
 /// its sums of products is.
-#[tactic(auto, unfolding(crate::specs::Rules::cross))]
+#[tactic(auto, unfolding(crate::specs::Motions::cross))]
 pub fn cross(a: &Motion, b: &Motion) -> Result<Motion, NumFault>
     ensures exact { result ≡ cross_of intervals a.now b.now }
     ensures encloses { IfOk result (EnclosesCross a.now b.now) }
@@ -189,7 +227,7 @@ pub fn cross(a: &Motion, b: &Motion) -> Result<Motion, NumFault>
 /// The product of a motion and a force, which is how `f` changes as it moves along with `a`:
 /// `(a.ang x f.lin, a.ang x f.ang + a.lin x f.lin)`. It is refused with `Size` exactly where one of
 /// its sums of products is.
-#[tactic(auto, unfolding(crate::specs::Rules::cross_dual))]
+#[tactic(auto, unfolding(crate::specs::Motions::cross_dual))]
 pub fn cross_dual(a: &Motion, f: &Force) -> Result<Force, NumFault>
     ensures exact { result ≡ cross_dual_of intervals a.now f.now }
     ensures encloses { IfOk result (EnclosesCrossDual a.now f.now) }
@@ -202,7 +240,7 @@ pub fn cross_dual(a: &Motion, f: &Force) -> Result<Force, NumFault>
 
 /// The power of the force at the motion, one sum of six products. It is refused with `Size` exactly
 /// where that is.
-#[tactic(auto, unfolding(crate::specs::Rules::power))]
+#[tactic(auto, unfolding(crate::specs::Motions::power))]
 pub fn power(m: &Motion, f: &Force) -> Result<Iv, NumFault>
     ensures exact { result ≡ power_of intervals m.now f.now }
     ensures encloses { IfOk result (EnclosesPower m.now f.now) }
@@ -216,4 +254,28 @@ pub fn power(m: &Motion, f: &Force) -> Result<Iv, NumFault>
         (m.ang.y(), f.ang.y()),
         (m.ang.z(), f.ang.z()),
     ])
+}
+
+/// The sum of two motions, part by part. It is refused with `Size` exactly where a part is.
+#[tactic(auto, unfolding(crate::specs::Motions::sum_spatial))]
+pub fn sum_motions(a: &Motion, b: &Motion) -> Result<Motion, NumFault>
+    ensures exact { result ≡ sum_spatial_of intervals a.now b.now }
+    ensures encloses { IfOk result (EnclosesSumSpatial a.now b.now) }
+    ensures size { IfErr result (λ e. e ≡ NumFault.Size) }
+{
+    let lin = sum_vector(&a.lin, &b.lin)?;
+    let ang = sum_vector(&a.ang, &b.ang)?;
+    Ok(Motion { lin, ang })
+}
+
+/// The sum of two forces, part by part. It is refused with `Size` exactly where a part is.
+#[tactic(auto, unfolding(crate::specs::Motions::sum_spatial))]
+pub fn sum_forces(f: &Force, g: &Force) -> Result<Force, NumFault>
+    ensures exact { result ≡ sum_spatial_of intervals f.now g.now }
+    ensures encloses { IfOk result (EnclosesSumSpatial f.now g.now) }
+    ensures size { IfErr result (λ e. e ≡ NumFault.Size) }
+{
+    let lin = sum_vector(&f.lin, &g.lin)?;
+    let ang = sum_vector(&f.ang, &g.ang)?;
+    Ok(Force { lin, ang })
 }

@@ -1,7 +1,6 @@
 ghost use Rattle.std.specs.Prelude.{◌≡◌, ◌<◌};
-ghost use Rattle.rb_num.specs.Arith.{intervals};
-ghost use Rattle.rb_spatial.specs.Tables.{transpose as transpose_of, full as full_of, component as component_of, row as row_of};
-ghost use Rattle.rb_spatial.specs.Rules.{cross_table as cross_table_of};
+ghost use Rattle.rb_num.specs.Arith.{intervals, signs_of};
+ghost use Rattle.rb_frac.specs.Tables.{transpose as transpose_of, full as full_of, component as component_of, row as row_of, cross_table as cross_table_of};
 
 use rb_num::Iv;
 use std::marker::Model;
@@ -15,7 +14,7 @@ impl Model for Vec3 {
     ghost use Rattle.std.proofs.Common.{ap};
     ghost use Rattle.rb_frac.specs.Ops.{V3};
     ghost use Rattle.rb_num.specs.Interval.{Interval};
-    ghost use Rattle.rb_spatial.specs.Tables.{vector_of, list_of, list_of-vector_of};
+    ghost use Rattle.rb_spatial.specs.Vectors.{vector_of, list_of, list_of-vector_of};
 
     ghost Value = { V3 Interval };
 
@@ -29,24 +28,28 @@ impl Model for Vec3 {
 }
 
 impl Vec3 {
+    /// The vector of these parts.
     pub fn new(x: Iv, y: Iv, z: Iv) -> Vec3
         ensures { result ≡ record { x = x; y = y; z = z } }
     {
         Vec3([x, y, z])
     }
 
+    /// The part along x.
     pub fn x(&self) -> Iv
         ensures { result ≡ self.now.x }
     {
         self.0[0]
     }
 
+    /// The part along y.
     pub fn y(&self) -> Iv
         ensures { result ≡ self.now.y }
     {
         self.0[1]
     }
 
+    /// The part along z.
     pub fn z(&self) -> Iv
         ensures { result ≡ self.now.z }
     {
@@ -67,7 +70,7 @@ impl Vec3 {
 
     /// The table of the cross product with this vector.
     pub fn cross_table(&self) -> Mat3
-        ensures { result ≡ cross_table_of intervals self.now }
+        ensures { result ≡ cross_table_of (signs_of intervals) self.now }
     {
         Mat3::new(
             Vec3::new(Iv::ZERO, self.z().neg(), self.y()),
@@ -85,7 +88,8 @@ impl Model for Mat3 {
     ghost use Rattle.std.specs.Prelude.{◌≡◌, List};
     ghost use Rattle.std.proofs.Common.{ap};
     ghost use Rattle.rb_num.specs.Interval.{Interval};
-    ghost use Rattle.rb_spatial.specs.Tables.{Table, IsSquare, table_of, lists_of, lists_of-table_of};
+    ghost use Rattle.rb_frac.specs.Tables.{Table};
+    ghost use Rattle.rb_spatial.specs.Vectors.{IsSquare, table_of, lists_of, lists_of-table_of};
 
     ghost Value = { Table Interval };
 
@@ -143,6 +147,7 @@ impl Mat3 {
         }
     }
 
+    /// The table whose rows are the columns of this one.
     pub fn transpose(&self) -> Mat3
         ensures { result ≡ transpose_of self.now }
     {
@@ -168,7 +173,7 @@ pub struct Sym3 {
 
 impl Model for Sym3 {
     ghost use Rattle.rb_num.specs.Interval.{Interval};
-    ghost use Rattle.rb_spatial.specs.Tables.{Symmetric};
+    ghost use Rattle.rb_frac.specs.Tables.{Symmetric};
 
     ghost Value = { Symmetric Interval };
 

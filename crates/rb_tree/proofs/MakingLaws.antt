@@ -1,12 +1,11 @@
 -- What is made of the links and the joints of a robot, body by body.
 use Rattle.std.proofs.Common.{◌≡◌, ℕ, zero, suc, ◌+◌, ◌<◌, ◌≤◌, List, [], ◌∷◌, ◌++◌, length, take, get_or, Option, None, Some, ◌⊎◌, inl, inr, add-one, sym, ◌∙◌, ap, subst, refl, arith}
-use Rattle.std.specs.List.{slice_get, sum_by, All, AllByRecursion}
+use Rattle.std.specs.List.{slice_get, sum_by, All, AllByRecursion, AllZip}
 use Rattle.std.specs.Option.{option_map_or}
 use Rattle.std.specs.Prelude.{Result, Ok, Err, IfErr, IsErrAnd}
 use Rattle.std.proofs.lemmas.List.Sums.{sum_by-cons}
 use Rattle.std.proofs.Math.Seq.{take-suc}
 use Rattle.std.proofs.lemmas.Option.{get_or_from_slice_get, slice_get_within}
-use Rattle.rb_flat.specs.Choice.{Each}
 use Rattle.rb_flat.specs.Joint as Flat
 use Rattle.rb_joint.specs.declared.any.AnyJoint.{AnyJoint}
 use Rattle.rb_joint.specs.Any as Model
@@ -20,8 +19,7 @@ use Rattle.rb_tree.specs.declared.faults.TreeFault.{TreeFault}
 use Rattle.rb_tree.specs.declared.order.Stem.{Stem}
 use Rattle.rb_tree.specs.declared.robot.Body.{Body}
 use Rattle.rb_tree.specs.declared.robot.Mimic.{Mimic}
-use Rattle.rb_tree.specs.Order.{columns_of, stem_columns, no_stem, body, IsOrder}
-use Rattle.rb_tree.specs.Order.{IsBuilt as IsBuiltJoint}
+use Rattle.rb_tree.specs.Order.{columns_of, stem_columns, no_stem, body, IsOrder, IsBuilt as IsBuiltJoint}
 use Rattle.rb_tree.specs.Faults.{IsFewInAll, no_memory}
 use Rattle.rb_tree.specs.Columns.{own_columns, mimic_or, leader_at, parent_at}
 use Rattle.rb_tree.specs.Robot.{IsBodyKept, AreBodies}
@@ -41,37 +39,37 @@ pub model_columns : (model : AnyJoint) (raw : JointRaw) (kind : UrdfKind) → Mo
 model_columns model raw kind same is = ap Flat.column_count same ∙ (ap (λ (k : UrdfKind). Flat.column_count (Raw.kind_of k)) is ∙ kind_columns kind)
 
 -- ---- lists item by item
-pub Each-push : {A B : Type 0} (R : A → B → Type 0) (xs : List A) (ys : List B) (x : A) (y : B) → Each R xs ys → R x y → Each R (xs ++ x ∷ []) (ys ++ y ∷ [])
+pub Each-push : {A B : Type 0} (R : A → B → Type 0) (xs : List A) (ys : List B) (x : A) (y : B) → AllZip R xs ys → R x y → AllZip R (xs ++ x ∷ []) (ys ++ y ∷ [])
 Each-push R [] [] x y e r = (r, tt)
 Each-push R [] (b ∷ ys) x y e r = absurd e
 Each-push R (a ∷ xs) [] x y e r = absurd e
 Each-push R (a ∷ xs) (b ∷ ys) x y e r = (e.0, Each-push R xs ys x y e.1 r)
 
-pub Each-length : {A B : Type 0} (R : A → B → Type 0) (xs : List A) (ys : List B) → Each R xs ys → length xs ≡ length ys
+pub Each-length : {A B : Type 0} (R : A → B → Type 0) (xs : List A) (ys : List B) → AllZip R xs ys → length xs ≡ length ys
 Each-length R [] [] e = refl
 Each-length R [] (b ∷ ys) e = absurd e
 Each-length R (a ∷ xs) [] e = absurd e
 Each-length R (a ∷ xs) (b ∷ ys) e = ap suc (Each-length R xs ys e.1)
 
-pub Each-map : {A B : Type 0} (R Q : A → B → Type 0) → ((a : A) (b : B) → R a b → Q a b) → (xs : List A) (ys : List B) → Each R xs ys → Each Q xs ys
+pub Each-map : {A B : Type 0} (R Q : A → B → Type 0) → ((a : A) (b : B) → R a b → Q a b) → (xs : List A) (ys : List B) → AllZip R xs ys → AllZip Q xs ys
 Each-map R Q f [] [] e = tt
 Each-map R Q f [] (b ∷ ys) e = absurd e
 Each-map R Q f (a ∷ xs) [] e = absurd e
 Each-map R Q f (a ∷ xs) (b ∷ ys) e = (f a b e.0, Each-map R Q f xs ys e.1)
 
-pub Each-left : {A B : Type 0} (R : A → B → Type 0) (P : A → Type 0) → ((a : A) (b : B) → R a b → P a) → (xs : List A) (ys : List B) → Each R xs ys → AllByRecursion P xs
+pub Each-left : {A B : Type 0} (R : A → B → Type 0) (P : A → Type 0) → ((a : A) (b : B) → R a b → P a) → (xs : List A) (ys : List B) → AllZip R xs ys → AllByRecursion P xs
 Each-left R P f [] [] e = tt
 Each-left R P f [] (b ∷ ys) e = absurd e
 Each-left R P f (a ∷ xs) [] e = absurd e
 Each-left R P f (a ∷ xs) (b ∷ ys) e = (f a b e.0, Each-left R P f xs ys e.1)
 
-pub Each-right : {A B : Type 0} (R : A → B → Type 0) (P : B → Type 0) → ((a : A) (b : B) → R a b → P b) → (xs : List A) (ys : List B) → Each R xs ys → AllByRecursion P ys
+pub Each-right : {A B : Type 0} (R : A → B → Type 0) (P : B → Type 0) → ((a : A) (b : B) → R a b → P b) → (xs : List A) (ys : List B) → AllZip R xs ys → AllByRecursion P ys
 Each-right R P f [] [] e = tt
 Each-right R P f [] (b ∷ ys) e = absurd e
 Each-right R P f (a ∷ xs) [] e = absurd e
 Each-right R P f (a ∷ xs) (b ∷ ys) e = (f a b e.0, Each-right R P f xs ys e.1)
 
-pub Each-sum : {A B : Type 0} (R : A → B → Type 0) (f : A → ℕ) (g : B → ℕ) → ((a : A) (b : B) → R a b → g b ≡ f a) → (xs : List A) (ys : List B) → Each R xs ys → sum_by g ys ≡ sum_by f xs
+pub Each-sum : {A B : Type 0} (R : A → B → Type 0) (f : A → ℕ) (g : B → ℕ) → ((a : A) (b : B) → R a b → g b ≡ f a) → (xs : List A) (ys : List B) → AllZip R xs ys → sum_by g ys ≡ sum_by f xs
 Each-sum R f g h [] [] e = refl
 Each-sum R f g h [] (b ∷ ys) e = absurd e
 Each-sum R f g h (a ∷ xs) [] e = absurd e
@@ -83,7 +81,7 @@ pub record HasPartner {A B : Type 0} (R : A → B → Type 0) (xs : List A) (k :
   pub is : slice_get xs k ≡ Some partner
   pub related : R partner y
 
-pub Each-at : {A B : Type 0} (R : A → B → Type 0) (xs : List A) (ys : List B) (k : ℕ) (y : B) → Each R xs ys → slice_get ys k ≡ Some y → HasPartner R xs k y
+pub Each-at : {A B : Type 0} (R : A → B → Type 0) (xs : List A) (ys : List B) (k : ℕ) (y : B) → AllZip R xs ys → slice_get ys k ≡ Some y → HasPartner R xs k y
 Each-at R [] [] k y e h = cc
 Each-at R [] (b ∷ ys) k y e h = absurd e
 Each-at R (a ∷ xs) [] k y e h = absurd e
@@ -132,7 +130,7 @@ stem_low robot stems (suc k) stem o h =
     omega (arith, ap (λ (s : Stem). s.parent) (stem_at stems (suc k) stem h), low.1)
 
 -- ---- robots
-pub have_constants : (robot : Robot) (stems : List Stem) (bodies : List Body) → Each (IsBodyOf robot) stems bodies → AllByRecursion (HasConstants robot) stems
+pub have_constants : (robot : Robot) (stems : List Stem) (bodies : List Body) → AllZip (IsBodyOf robot) stems bodies → AllByRecursion (HasConstants robot) stems
 have_constants robot stems bodies e = Each-left (IsBodyOf robot) (HasConstants robot) (λ stem body b. (body, b.is)) stems bodies e
 
 leader_found : (o : Option Body) (i : ℕ) → ((b : Body) → o ≡ Some b → b.mimic ≡ None) → option_map_or (λ (b : Body). mimic_or b.mimic i) o i ≡ i
@@ -143,7 +141,7 @@ low_parent : (o : Option Body) (i : ℕ) → 1 ≤ i → ((b : Body) → o ≡ S
 low_parent None i from h = from
 low_parent (Some b) i from h = h b refl
 
-module _ (robot : Robot) (stems : List Stem) (bodies : List Body) (o : IsOrder robot stems) (e : Each (IsBodyOf robot) stems bodies) where
+module _ (robot : Robot) (stems : List Stem) (bodies : List Body) (o : IsOrder robot stems) (e : AllZip (IsBodyOf robot) stems bodies) where
   leader_is : (i : ℕ) → leader_at bodies i ≡ i
   leader_is zero = refl
   leader_is (suc k) = leader_found (slice_get bodies k) (suc k) (λ b h. (Each-at (IsBodyOf robot) stems bodies k b e h).related.is.made.mimic)
@@ -169,7 +167,7 @@ module _ (robot : Robot) (stems : List Stem) (bodies : List Body) (o : IsOrder r
         kept = Each-right (IsBodyOf robot) IsBodyKept (λ stem body b. b.kept) stems bodies e;
       }
 
-pub built : (robot : Robot) (stems : List Stem) (bodies : List Body) (name : List ℕ) → IsOrder robot stems → IsFewInAll robot stems → All IsBuiltJoint robot.joints → Each (IsBodyOf robot) stems bodies → name ≡ robot.name → IsBuilt robot (record { name = name; bodies = bodies })
+pub built : (robot : Robot) (stems : List Stem) (bodies : List Body) (name : List ℕ) → IsOrder robot stems → IsFewInAll robot stems → All IsBuiltJoint robot.joints → AllZip (IsBodyOf robot) stems bodies → name ≡ robot.name → IsBuilt robot (record { name = name; bodies = bodies })
 built robot stems bodies name o few joints e n = record {
   name = n;
   order = stems;
@@ -181,13 +179,13 @@ built robot stems bodies name o few joints e n = record {
 
 -- where the bodies before a place are made and that at the place is refused
 pub refused_there : (robot : Robot) (order : List Stem) (k : ℕ) (stem : Stem) (bodies : List Body) (fault : TreeFault) → IsOrder robot order → IsFewInAll robot order → All IsBuiltJoint robot.joints → slice_get order k ≡ Some stem →
-    Each (IsBodyOf robot) (take k order) bodies → (fault ≡ no_memory) ⊎ IsRefused robot stem fault → (fault ≡ no_memory) ⊎ HasConstantFault robot fault
+    AllZip (IsBodyOf robot) (take k order) bodies → (fault ≡ no_memory) ⊎ IsRefused robot stem fault → (fault ≡ no_memory) ⊎ HasConstantFault robot fault
 refused_there robot order k stem bodies fault o few joints h e (inl m) = inl m
 refused_there robot order k stem bodies fault o few joints h e (inr r) =
     inr (record { order = order; ordered = o; few = few; joints = joints; number = k; stem = stem; is = h; before = have_constants robot (take k order) bodies e; refused = r })
 
-pub one_more : (robot : Robot) (order : List Stem) (k : ℕ) (bodies : List Body) (body : Body) (d : Stem) → k < length order → Each (IsBodyOf robot) (take k order) bodies →
-    IsBodyOf robot (get_or order k d) body → Each (IsBodyOf robot) (take (k + 1) order) (bodies ++ body ∷ [])
+pub one_more : (robot : Robot) (order : List Stem) (k : ℕ) (bodies : List Body) (body : Body) (d : Stem) → k < length order → AllZip (IsBodyOf robot) (take k order) bodies →
+    IsBodyOf robot (get_or order k d) body → AllZip (IsBodyOf robot) (take (k + 1) order) (bodies ++ body ∷ [])
 one_more robot order k bodies body d h e b = rw (add-one, take-suc order k d h) (Each-push (IsBodyOf robot) (take k order) bodies (get_or order k d) body e b)
 
 -- a refusal that is handed on

@@ -1,9 +1,8 @@
 -- A robot file gives at most one robot, and none where it has a fault.
 use Rattle.std.proofs.Common.{◌≡◌, ℕ, zero, suc, ◌<◌, List, [], ◌∷◌, take, Option, None, Some, false, true, inl, inr, sym, ◌∙◌, ap, subst, refl, arith}
 use Rattle.std.specs.Prelude.{Result, Ok, Err, IsOk}
-use Rattle.std.specs.List.{slice_get, AllByRecursion}
+use Rattle.std.specs.List.{slice_get, AllByRecursion, AllZip}
 use Rattle.std.proofs.lemmas.Bool.{cases_order}
-use Rattle.rb_flat.specs.Choice.{Each}
 use Rattle.rb_joint.specs.declared.any.AnyJoint.{AnyJoint}
 use Rattle.rb_body.specs.declared.raw.JointRaw.{JointRaw}
 use Rattle.rb_urdf.specs.declared.robot.UrdfJoint.{UrdfJoint}
@@ -57,7 +56,7 @@ one_body robot stem a b p q =
     let J : UrdfJoint → Type 0 = λ joint. IsMadeOf p.link joint b in
     made_once p.link p.joint a b p.made (subst J j (subst L l q.made)) (p.parent ∙ sym q.parent)
 
-one_list : {A B : Type 0} (R : A → B → Type 0) → ((x : A) (a b : B) → R x a → R x b → a ≡ b) → (xs : List A) (ys zs : List B) → Each R xs ys → Each R xs zs → ys ≡ zs
+one_list : {A B : Type 0} (R : A → B → Type 0) → ((x : A) (a b : B) → R x a → R x b → a ≡ b) → (xs : List A) (ys zs : List B) → AllZip R xs ys → AllZip R xs zs → ys ≡ zs
 one_list R f [] [] [] p q = refl
 one_list R f [] [] (b ∷ zs) p q = absurd q
 one_list R f [] (a ∷ ys) zs p q = absurd p
@@ -71,7 +70,7 @@ one_list R f (x ∷ xs) (a ∷ ys) (b ∷ zs) p q =
 pub built_once : (robot : Robot) (a b : Tree) → IsRobot robot.links robot.joints → IsBuilt robot a → IsBuilt robot b → a ≡ b
 built_once robot a b kept p q =
     let o = one_order robot q.order p.order kept q.ordered p.ordered in
-    let E : List Stem → Type 0 = λ stems. Each (IsBody robot) stems b.bodies in
+    let E : List Stem → Type 0 = λ stems. AllZip (IsBody robot) stems b.bodies in
     let bodies = one_list (IsBody robot) (one_body robot) p.order a.bodies b.bodies p.bodies (subst E o q.bodies) in
     let name = p.name ∙ sym q.name in
     λ i. record { name = name i; bodies = bodies i }
@@ -81,7 +80,7 @@ record HasMate {A B : Type 0} (R : A → B → Type 0) (x : A) : Type 0 where
   mate : B
   related : R x mate
 
-mate_at : {A B : Type 0} (R : A → B → Type 0) (xs : List A) (ys : List B) (k : ℕ) (x : A) → Each R xs ys → slice_get xs k ≡ Some x → HasMate R x
+mate_at : {A B : Type 0} (R : A → B → Type 0) (xs : List A) (ys : List B) (k : ℕ) (x : A) → AllZip R xs ys → slice_get xs k ≡ Some x → HasMate R x
 mate_at R [] ys k x e h = cc
 mate_at R (a ∷ xs) [] k x e h = absurd e
 mate_at {A = A} R (a ∷ xs) (b ∷ ys) zero x e h =
@@ -97,7 +96,7 @@ not_refused link joint body fault made (inr refused) = let e = made.inertia in l
 constants_exclude : (robot : Robot) (fault : TreeFault) (tree : Tree) → IsRobot robot.links robot.joints → HasConstantFault robot fault → IsBuilt robot tree → ⊥
 constants_exclude robot fault tree kept f t =
     let o = one_order robot t.order f.order kept t.ordered f.ordered in
-    let E : List Stem → Type 0 = λ stems. Each (IsBody robot) stems tree.bodies in
+    let E : List Stem → Type 0 = λ stems. AllZip (IsBody robot) stems tree.bodies in
     let m = mate_at (IsBody robot) f.order tree.bodies f.number f.stem (subst E o t.bodies) f.is in
     let l = one_link robot.links f.stem.link m.related.link f.refused.link m.related.pair.link_is f.refused.pair.link_is in
     let j = one_joint robot f.stem.joint m.related.joint f.refused.joint m.related.pair.joint_is f.refused.pair.joint_is in

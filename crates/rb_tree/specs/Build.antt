@@ -1,10 +1,9 @@
 -- What it is for a robot to be built from a robot file, and for a fault to be one of its constants.
 use Rattle.std.specs.Prelude.{◌≡◌, ◌⊎◌, ℕ, List, [], ◌∷◌, take, Option, None, Some, Result, Ok, Err, IsOk, slice_get}
-use Rattle.std.specs.List.{All, AllByRecursion}
+use Rattle.std.specs.List.{All, AllByRecursion, AllZip}
 use Rattle.rb_num.specs.Interval.{Interval}
 use Rattle.rb_spatial.specs.Tables as Spatial
-use Rattle.rb_spatial.specs.Tables.{none}
-use Rattle.rb_flat.specs.Choice.{Each}
+use Rattle.rb_spatial.specs.Vectors.{none}
 use Rattle.rb_joint.specs.declared.any.AnyJoint.{AnyJoint}
 use Rattle.rb_urdf.specs.declared.robot.UrdfKind.TheVariants.{Fixed}
 use Rattle.rb_urdf.specs.declared.robot.UrdfLink.{UrdfLink}
@@ -22,8 +21,7 @@ use Rattle.rb_tree.specs.declared.faults.TreeKind.TheVariants.{AngleRange, ZeroA
 use Rattle.rb_tree.specs.declared.faults.WhichFile.TheVariants.{Urdf}
 use Rattle.rb_tree.specs.declared.order.Stem.{Stem}
 use Rattle.rb_tree.specs.declared.robot.Body.{Body}
-use Rattle.rb_tree.specs.Order.{IsOrder}
-use Rattle.rb_tree.specs.Order.{IsBuilt as IsBuiltJoint}
+use Rattle.rb_tree.specs.Order.{IsOrder, IsBuilt as IsBuiltJoint}
 use Rattle.rb_tree.specs.Faults.{HasOrderFault, IsFewInAll}
 use Rattle.rb_tree.specs.Robot.{Tree}
 
@@ -99,7 +97,7 @@ pub record IsBuilt (robot : Robot) (tree : Tree) : Type 0 where
   pub ordered : IsOrder robot order
   pub few : IsFewInAll robot order
   pub joints : All IsBuiltJoint robot.joints
-  pub bodies : Each (IsBody robot) order tree.bodies
+  pub bodies : AllZip (IsBody robot) order tree.bodies
 
 -- ---- faults
 -- the constants of the joint are refused, or where they are not, those of the link

@@ -2,7 +2,8 @@
 use Rattle.std.specs.Prelude.{◌≡◌, ℕ, Ok}
 use Rattle.rb_num.specs.Interval.{Interval}
 use Rattle.rb_num.specs.Arith.{intervals}
-use Rattle.rb_spatial.specs.Tables.{Pose, none}
+use Rattle.rb_frac.specs.Spatial.{Frame}
+use Rattle.rb_spatial.specs.Vectors.{none}
 use Rattle.rb_joint.specs.declared.any.AnyJoint.TheVariants as Variant
 use Rattle.rb_urdf.specs.declared.robot.UrdfKind.TheVariants.{Fixed}
 use Rattle.rb_urdf.specs.Robot.{Robot, IsRobot}
@@ -23,7 +24,7 @@ abbrev pub FaultExcludesRobot : Type 0
 FaultExcludesRobot = (robot : Robot) (fault : TreeFault) (tree : Tree) → IsRobot robot.links robot.joints → HasFault robot fault → IsBuilt robot tree → ⊥
 
 -- the frame at the world's origin along the world's axes
-abbrev pub identity : Pose Interval
+abbrev pub identity : Frame Interval
 identity =
     let o = intervals.zero in
     let i = intervals.one in

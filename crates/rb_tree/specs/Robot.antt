@@ -1,7 +1,7 @@
 -- What contracts see of a robot, and what each robot keeps.
 use Rattle.std.specs.Prelude.{◌≡◌, ℕ, ◌<◌, ◌≤◌, List, length}
 use Rattle.std.specs.List.{AllByRecursion}
-use Rattle.rb_spatial.specs.Tables.{none, vector_of}
+use Rattle.rb_spatial.specs.Vectors.{none, vector_of}
 use Rattle.rb_trig.specs.Axis.{MakesUnit}
 use Rattle.rb_body.specs.declared.raw.JointRaw.{JointRaw}
 use Rattle.rb_body.specs.Raw.{HasAxis, link_brackets}

@@ -1,6 +1,6 @@
 ghost use Rattle.std.specs.Prelude.{◌≡◌, ◌⊎◌, IfOk, IfErr};
 ghost use Rattle.std.specs.List.{All};
-ghost use Rattle.rb_flat.specs.Choice.{Each};
+ghost use Rattle.std.specs.List.{AllZip};
 ghost use Rattle.rb_tree.specs.Order.{IsOrder, IsBuilt as IsBuiltJoint};
 ghost use Rattle.rb_tree.specs.Robot.{AreBodies};
 ghost use Rattle.rb_tree.specs.Faults.{no_memory as no_memory_fault, IsFewInAll};
@@ -37,7 +37,7 @@ fn bodies_of(alloc: Global, urdf: &UrdfRobot, order: &[Stem]) -> Result<Vec<Body
     requires ordered { IsOrder urdf.now order.now }
     requires few { IsFewInAll urdf.now order.now }
     requires built { All IsBuiltJoint urdf.now.joints }
-    ensures ok { IfOk result (λ bodies. Each (IsBodyOf urdf.now) order.now bodies.items) }
+    ensures ok { IfOk result (λ bodies. AllZip (IsBodyOf urdf.now) order.now bodies.items) }
     ensures err { IfErr result (λ fault. (fault ≡ no_memory_fault) ⊎ HasConstantFault urdf.now fault) }
 {
     let mut bodies = Vec::new(alloc);

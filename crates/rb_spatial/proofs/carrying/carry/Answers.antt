@@ -1,5 +1,5 @@
 use Rattle.std.proofs.Common.{rules}
-use Rattle.rb_spatial.specs.Rules.{carry}
+use Rattle.rb_spatial.specs.Carrying.{carry}
 use Rattle.rb_num.proofs.Bridges.{to_intervals, ok_met}
 use Rattle.rb_spatial.proofs.Keep.{carry_met}
 use Rattle.rb_spatial.proofs.carrying.carry.Goals as goal

@@ -1,5 +1,5 @@
 use Rattle.std.proofs.Common.{rules}
-use Rattle.rb_spatial.specs.Rules.{product}
+use Rattle.rb_spatial.specs.Carrying.{product}
 use Rattle.rb_num.proofs.Bridges.{to_intervals, ok_met}
 use Rattle.rb_spatial.proofs.Keep.{product_met}
 use Rattle.rb_spatial.proofs.carrying.product.Goals as goal

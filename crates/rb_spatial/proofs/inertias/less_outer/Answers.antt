@@ -1,5 +1,5 @@
 use Rattle.std.proofs.Common.{rules}
-use Rattle.rb_spatial.specs.Rules.{less_outer}
+use Rattle.rb_spatial.specs.Inertias.{less_outer}
 use Rattle.rb_num.proofs.Bridges.{to_intervals, ok_met}
 use Rattle.rb_spatial.proofs.Keep.{less_outer_met}
 use Rattle.rb_spatial.proofs.inertias.less_outer.Goals as goal

@@ -1,5 +1,5 @@
 use Rattle.std.proofs.Common.{rules}
-use Rattle.rb_spatial.specs.Rules.{sum}
+use Rattle.rb_spatial.specs.Inertias.{sum}
 use Rattle.rb_num.proofs.Bridges.{to_intervals, ok_met}
 use Rattle.rb_spatial.proofs.Keep.{sum_met}
 use Rattle.rb_spatial.proofs.inertias.sum.Goals as goal

@@ -1,5 +1,5 @@
 use Rattle.std.proofs.Common.{rules}
-use Rattle.rb_spatial.specs.Rules.{table}
+use Rattle.rb_spatial.specs.Inertias.{table}
 use Rattle.rb_spatial.proofs.Enclosure.{table_encloses}
 use Rattle.rb_spatial.proofs.inertias.table.Goals as goal
 

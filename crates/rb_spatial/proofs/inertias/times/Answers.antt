@@ -1,5 +1,5 @@
 use Rattle.std.proofs.Common.{rules}
-use Rattle.rb_spatial.specs.Rules.{times}
+use Rattle.rb_spatial.specs.Inertias.{times}
 use Rattle.rb_num.proofs.Bridges.{to_intervals, ok_met}
 use Rattle.rb_spatial.proofs.Keep.{times_met}
 use Rattle.rb_spatial.proofs.inertias.times.Goals as goal

@@ -1,4 +1,4 @@
-use Rattle.rb_spatial.proofs.Identities.{apply-linear, apply_dual-linear, cross-linear, cross_dual-linear, times-linear, power-linear, sum-additive}
+use Rattle.rb_spatial.proofs.Identities.{apply-linear, apply_dual-linear, cross-linear, cross_dual-linear, times-linear, power-linear, table-linear, needed-linear, sum-additive}
 use Rattle.rb_spatial.proofs.laws.linearity.Goals as goal
 
 pub returns-clause-apply : goal.returns-clause-apply
@@ -21,3 +21,9 @@ returns-clause-power c = power-linear
 
 pub returns-clause-sum : goal.returns-clause-sum
 returns-clause-sum c = sum-additive
+
+pub returns-clause-table : goal.returns-clause-table
+returns-clause-table c = table-linear
+
+pub returns-clause-needed : goal.returns-clause-needed
+returns-clause-needed c = needed-linear

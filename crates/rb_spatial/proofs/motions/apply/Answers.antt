@@ -1,5 +1,5 @@
 use Rattle.std.proofs.Common.{rules}
-use Rattle.rb_spatial.specs.Rules.{apply}
+use Rattle.rb_spatial.specs.Motions.{apply}
 use Rattle.rb_num.proofs.Bridges.{to_intervals, ok_met}
 use Rattle.rb_spatial.proofs.Keep.{apply_met}
 use Rattle.rb_spatial.proofs.motions.apply.Goals as goal

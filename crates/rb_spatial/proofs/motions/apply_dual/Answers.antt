@@ -1,5 +1,5 @@
 use Rattle.std.proofs.Common.{rules}
-use Rattle.rb_spatial.specs.Rules.{apply_dual}
+use Rattle.rb_spatial.specs.Motions.{apply_dual}
 use Rattle.rb_num.proofs.Bridges.{to_intervals, ok_met}
 use Rattle.rb_spatial.proofs.Keep.{apply_dual_met}
 use Rattle.rb_spatial.proofs.motions.apply_dual.Goals as goal

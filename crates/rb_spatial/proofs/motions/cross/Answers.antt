@@ -1,5 +1,5 @@
 use Rattle.std.proofs.Common.{rules}
-use Rattle.rb_spatial.specs.Rules.{cross}
+use Rattle.rb_spatial.specs.Motions.{cross}
 use Rattle.rb_num.proofs.Bridges.{to_intervals, ok_met}
 use Rattle.rb_spatial.proofs.Keep.{cross_met}
 use Rattle.rb_spatial.proofs.motions.cross.Goals as goal

@@ -1,5 +1,5 @@
 use Rattle.std.proofs.Common.{rules}
-use Rattle.rb_spatial.specs.Rules.{cross_dual}
+use Rattle.rb_spatial.specs.Motions.{cross_dual}
 use Rattle.rb_num.proofs.Bridges.{to_intervals, ok_met}
 use Rattle.rb_spatial.proofs.Keep.{cross_dual_met}
 use Rattle.rb_spatial.proofs.motions.cross_dual.Goals as goal

@@ -1,5 +1,5 @@
 use Rattle.std.proofs.Common.{rules}
-use Rattle.rb_spatial.specs.Rules.{power}
+use Rattle.rb_spatial.specs.Motions.{power}
 use Rattle.rb_spatial.proofs.Enclosure.{power_encloses}
 use Rattle.rb_spatial.proofs.motions.power.Goals as goal
 

@@ -1,7 +1,7 @@
 use Rattle.std.proofs.Common.{take}
-use Rattle.rb_flat.specs.Choice.{Each}
+use Rattle.std.specs.List.{AllZip}
 use Rattle.rb_tree.specs.Made.{IsBodyOf}
 use Rattle.rb_tree.proofs.build.bodies_of.Given as goal
 
 abbrev pub invariant-loop-stem : goal.invariant-loop-stem
-invariant-loop-stem l = Each (IsBodyOf l.urdf) (take l.stem-index l.order) l.bodies.items
+invariant-loop-stem l = AllZip (IsBodyOf l.urdf) (take l.stem-index l.order) l.bodies.items

@@ -1,6 +1,6 @@
 use Rattle.std.proofs.Common.{arith}
 use Rattle.std.proofs.lemmas.Grind.{common_steps}
-use Rattle.rb_spatial.specs.Tables.{entry}
+use Rattle.rb_frac.specs.Spatial.{entry}
 use Rattle.rb_spatial.proofs.Enclosure.{entry_encloses}
 use Rattle.rb_spatial.proofs.inertias.Inertia6.get.Goals as goal
 

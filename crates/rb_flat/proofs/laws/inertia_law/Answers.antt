@@ -1,5 +1,5 @@
 use Rattle.rb_flat.proofs.Identities.{congruent_is_symmetric, parallel_axes_is_square}
-use Rattle.rb_flat.proofs.inertia_law.Goals as goal
+use Rattle.rb_flat.proofs.laws.inertia_law.Goals as goal
 
 pub returns-clause-symmetric : goal.returns-clause-symmetric
 returns-clause-symmetric c = congruent_is_symmetric

@@ -1,5 +1,5 @@
 use Rattle.rb_flat.proofs.Identities.{turn_keeps_axis, quaternion_keeps_vector, turns_about_coordinates}
-use Rattle.rb_flat.proofs.turn_law.Goals as goal
+use Rattle.rb_flat.proofs.laws.turn_law.Goals as goal
 
 pub returns-clause-axis : goal.returns-clause-axis
 returns-clause-axis c = turn_keeps_axis
