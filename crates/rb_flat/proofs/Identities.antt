@@ -25,9 +25,9 @@ unfolding about_x about_y about_z about_axis table_product table_sum table_scale
 turns_about_coordinates t =
     let l = of_sine_cosine t [] in
     record {
-      x = tables l (about_axis expr (unit (signs expr) 0) (sine_cosine 0)) (about_x expr (sine_cosine 0)) (refl, refl, refl) (refl, refl, refl) (refl, refl, refl);
-      y = tables l (about_axis expr (unit (signs expr) 1) (sine_cosine 0)) (about_y expr (sine_cosine 0)) (refl, refl, refl) (refl, refl, refl) (refl, refl, refl);
-      z = tables l (about_axis expr (unit (signs expr) 2) (sine_cosine 0)) (about_z expr (sine_cosine 0)) (refl, refl, refl) (refl, refl, refl) (refl, refl, refl);
+      x = tables l (about_axis expr (unit (signs expr) 0) (sine_cosine 0)) (about_x (signs expr) (sine_cosine 0)) (refl, refl, refl) (refl, refl, refl) (refl, refl, refl);
+      y = tables l (about_axis expr (unit (signs expr) 1) (sine_cosine 0)) (about_y (signs expr) (sine_cosine 0)) (refl, refl, refl) (refl, refl, refl) (refl, refl, refl);
+      z = tables l (about_axis expr (unit (signs expr) 2) (sine_cosine 0)) (about_z (signs expr) (sine_cosine 0)) (refl, refl, refl) (refl, refl, refl) (refl, refl, refl);
     }
 
 pub congruent_is_symmetric : CongruentIsSymmetric
