@@ -16,7 +16,7 @@ pub enum AnyJoint {
 
 impl AnyJoint {
     ghost use Rattle.rb_flat.specs.Joint.{entry_count, column_count};
-    ghost use Rattle.rb_joint.specs.Choices.{EnclosesPlace, EnclosesColumn};
+    ghost use Rattle.rb_joint.specs.Model.{EnclosesPlace, EnclosesColumn};
     ghost use Rattle.rb_joint.specs.Any.{kind_of, HasChoice, PassesRange, any_place, any_column};
 
     /// How many entries the position has.
@@ -46,6 +46,7 @@ impl AnyJoint {
     ///
     /// It is refused with `Range` exactly where the angle of a revolute joint is larger in size than
     /// eight radians, and else with `Size` exactly where a step of the place is refused.
+    #[tactic(auto, unfolding(crate::specs::Any::any_place))]
     pub fn place(&self, q: &[Iv]) -> Result<Place, JointFault>
         requires { length q.now ≡ entry_count (kind_of self.now) }
         ensures exact { result ≡ any_place self.now q.now }
@@ -61,6 +62,7 @@ impl AnyJoint {
 
     /// Column `k`, from 0, linear part first, which encloses that of the joint relation for each
     /// choice.
+    #[tactic(auto, unfolding(crate::specs::Any::any_column))]
     pub fn column(&self, k: usize) -> Motion
         requires { k < column_count (kind_of self.now) }
         ensures exact { result ≡ any_column self.now k }

@@ -1,12 +1,11 @@
 //! What the rules of joints mean at fractions.
 
-ghost use Rattle.rb_joint.specs.Laws.{RotationIsProduct, TurnIsAboutAxis, LevelTurnIsAboutZ, TurnIsAboutQuaternion, PlaceIsProduct, ShiftedPlaceTurnsNot};
+ghost use Rattle.rb_joint.specs.Laws.{RotationIsProduct, TurnIsAboutAxis, TurnIsAboutQuaternion, PlaceIsProduct, ShiftedPlaceTurnsNot};
 
 /// Each turn is its product of tables.
 pub fn turns()
     ensures rotation { RotationIsProduct }
     ensures about { TurnIsAboutAxis }
-    ensures level { LevelTurnIsAboutZ }
     ensures quaternion { TurnIsAboutQuaternion }
 {}
 

@@ -16,8 +16,8 @@ pub use faults::JointFault;
 pub use frames::frame_of;
 pub use model::JointModel;
 pub use models::{Fixed, Prismatic, Revolute};
-pub use places::{place_of, place_shifted};
-pub use turns::{Quaternion, Turn, axis_products, rotation, turn_about, turn_level, turn_of};
+pub use places::{outside, place_of, place_shifted};
+pub use turns::{Quaternion, SineCosine, axis_products, rotation, turn_about, turn_level, turn_of};
 
 #[cfg(test)]
 mod tests;

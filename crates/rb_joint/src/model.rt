@@ -1,9 +1,9 @@
 ghost use Rattle.std.specs.Prelude.{◌≡◌, ℕ, ◌<◌, Result, List, length, IfOk};
 ghost use Rattle.rb_num.specs.Interval.{Interval};
-ghost use Rattle.rb_frac.specs.Spatial.{Spatial, Place};
+ghost use Rattle.rb_frac.specs.Spatial as S;
 ghost use Rattle.rb_flat.specs.Joint.{Kind, JointChoice, entry_count, column_count};
 ghost use Rattle.rb_joint.specs.declared.faults.JointFault.{JointFault};
-ghost use Rattle.rb_joint.specs.Choices.{EnclosesPlace, EnclosesColumn};
+ghost use Rattle.rb_joint.specs.Model.{EnclosesPlace, EnclosesColumn};
 
 use crate::faults::JointFault;
 use rb_num::Iv;
@@ -28,9 +28,9 @@ pub trait JointModel {
     // whether the frame and the axis of a choice are among those of the model
     ghost has: { Self → JointChoice → Type 0 };
 
-    ghost place_at: { Self → List Interval → Result (Place Interval) JointFault };
+    ghost place_at: { Self → List Interval → Result (S.Place Interval) JointFault };
 
-    ghost column_at: { Self → ℕ → Spatial Interval };
+    ghost column_at: { Self → ℕ → S.Motion Interval };
 
     /// The place of the body behind the joint, for the entries `q`. For each choice of numbers in the
     /// model's frame and axis and in `q`, the place of the joint relation lies in it.

@@ -1,33 +1,21 @@
 ghost use Rattle.std.specs.Prelude.{◌≡◌, IfErr, IfOk, Ok};
-ghost use Rattle.rb_num.specs.Arith.{intervals};
-ghost use Rattle.rb_joint.specs.Rules.{shift_along as shift_along_of, origin as origin_of};
+ghost use Rattle.rb_num.specs.Arith.{intervals, signs_of};
+ghost use Rattle.rb_frac.specs.Tables.{nothing};
 ghost use Rattle.rb_joint.specs.Models.{axial_by};
 
 use crate::faults::JointFault;
-use crate::frames::turn_by;
+use crate::frames::sine_cosine_of;
 use crate::model::JointModel;
 use crate::places::{place_of, place_shifted};
 use crate::turns::{axis_products, turn_about};
-use rb_num::{Iv, NumFault, dot};
-use rb_spatial::{Frame, Motion, Place, Sym3, Vec3};
+use rb_num::{Iv, NumFault};
+use rb_spatial::{Frame, Motion, Place, Sym3, Vec3, multiple};
 use std::marker::Model;
 
 fn origin() -> Vec3
-    ensures { result ≡ origin_of intervals }
+    ensures { result ≡ nothing (signs_of intervals) }
 {
     Vec3::new(Iv::ZERO, Iv::ZERO, Iv::ZERO)
-}
-
-// By `d` along the axis `a`.
-#[tactic(auto, unfolding(crate::specs::Rules::shift_along))]
-fn shift_along(a: &Vec3, d: Iv) -> Result<Vec3, NumFault>
-    ensures exact { result ≡ shift_along_of intervals a.now d }
-    ensures size { IfErr result (λ e. e ≡ NumFault.Size) }
-{
-    let x = dot(&[(a.x(), d)])?;
-    let y = dot(&[(a.y(), d)])?;
-    let z = dot(&[(a.z(), d)])?;
-    Ok(Vec3::new(x, y, z))
 }
 
 /// A joint that does not move.
@@ -47,9 +35,9 @@ impl Fixed {
 
 impl JointModel for Fixed {
     ghost use Rattle.rb_flat.specs.Joint as Kinds;
-    ghost use Rattle.rb_joint.specs.Rules.{along};
+    ghost use Rattle.rb_flat.specs.Joint.{along};
     ghost use Rattle.rb_joint.specs.Models.{fixed_place};
-    ghost use Rattle.rb_joint.specs.Choices.{HasFrame};
+    ghost use Rattle.rb_joint.specs.Frames.{HasFrame};
     ghost use Rattle.std.specs.Prelude.{refl};
 
     const NQ: usize = 0;
@@ -66,20 +54,20 @@ impl JointModel for Fixed {
 
     ghost place_at = { λ m q. fixed_place m.frame };
 
-    ghost column_at = { λ m k. along intervals (origin_of intervals) };
+    ghost column_at = { λ m k. along (signs_of intervals) (nothing (signs_of intervals)) };
 
     ghost entry_law = { refl };
 
     ghost column_law = { refl };
 
-    #[tactic(auto, unfolding(crate::specs::Models::fixed_place, crate::specs::Rules::place_fixed))]
+    #[tactic(auto, unfolding(crate::specs::Models::fixed_place, crate::specs::Models::place_fixed))]
     fn place(&self, _q: &[Iv]) -> Result<Place, JointFault> {
         Ok(place_shifted(&self.frame, &origin())?)
     }
 
     /// There is none, and the answer is no motion.
     fn column(&self, _k: usize) -> Motion
-        ensures { result ≡ along intervals (origin_of intervals) }
+        ensures { result ≡ along (signs_of intervals) (nothing (signs_of intervals)) }
     {
         let zero = origin();
         Motion {
@@ -104,7 +92,7 @@ impl Model for Revolute {
     ghost use Rattle.rb_num.specs.Interval.{Interval};
     ghost use Rattle.rb_num.specs.Arith.{intervals};
     ghost use Rattle.rb_frac.specs.Tables.{Symmetric};
-    ghost use Rattle.rb_joint.specs.Rules.{axis_products};
+    ghost use Rattle.rb_joint.specs.Turns.{axis_products};
     ghost use Rattle.rb_joint.specs.Models.{Axial, kept};
 
     ghost Value = { Axial };
@@ -138,9 +126,9 @@ impl Revolute {
 
 impl JointModel for Revolute {
     ghost use Rattle.rb_flat.specs.Joint as Kinds;
-    ghost use Rattle.rb_joint.specs.Rules.{around};
+    ghost use Rattle.rb_flat.specs.Joint.{around};
     ghost use Rattle.rb_joint.specs.Models.{revolute_place, first};
-    ghost use Rattle.rb_joint.specs.Choices.{HasFrameAndAxis};
+    ghost use Rattle.rb_joint.specs.Model.{HasFrameAndAxis};
     ghost use Rattle.std.specs.Prelude.{refl};
 
     const NQ: usize = 1;
@@ -157,15 +145,15 @@ impl JointModel for Revolute {
 
     ghost place_at = { λ m q. revolute_place m.frame m.axis (first q) };
 
-    ghost column_at = { λ m k. around intervals m.axis };
+    ghost column_at = { λ m k. around (signs_of intervals) m.axis };
 
     ghost entry_law = { refl };
 
     ghost column_law = { refl };
 
-    #[tactic(auto, unfolding(crate::specs::Models::revolute_place, crate::specs::Rules::place_turned))]
+    #[tactic(auto, unfolding(crate::specs::Models::revolute_place, crate::specs::Models::place_turned))]
     fn place(&self, q: &[Iv]) -> Result<Place, JointFault> {
-        let t = turn_by(q[0])?;
+        let t = sine_cosine_of(q[0])?;
         let turn = turn_about(&self.axis, &self.products, &t)?;
         Ok(place_of(&self.frame, &turn, &origin())?)
     }
@@ -197,9 +185,9 @@ impl Prismatic {
 
 impl JointModel for Prismatic {
     ghost use Rattle.rb_flat.specs.Joint as Kinds;
-    ghost use Rattle.rb_joint.specs.Rules.{along};
+    ghost use Rattle.rb_flat.specs.Joint.{along};
     ghost use Rattle.rb_joint.specs.Models.{prismatic_place, first};
-    ghost use Rattle.rb_joint.specs.Choices.{HasFrameAndAxis};
+    ghost use Rattle.rb_joint.specs.Model.{HasFrameAndAxis};
     ghost use Rattle.std.specs.Prelude.{refl};
 
     const NQ: usize = 1;
@@ -216,15 +204,15 @@ impl JointModel for Prismatic {
 
     ghost place_at = { λ m q. prismatic_place m.frame m.axis (first q) };
 
-    ghost column_at = { λ m k. along intervals m.axis };
+    ghost column_at = { λ m k. along (signs_of intervals) m.axis };
 
     ghost entry_law = { refl };
 
     ghost column_law = { refl };
 
-    #[tactic(auto, unfolding(crate::specs::Models::prismatic_place, crate::specs::Rules::place_along))]
+    #[tactic(auto, unfolding(crate::specs::Models::prismatic_place, crate::specs::Models::place_along))]
     fn place(&self, q: &[Iv]) -> Result<Place, JointFault> {
-        let p = shift_along(&self.axis, q[0])?;
+        let p = multiple(q[0], &self.axis)?;
         Ok(place_shifted(&self.frame, &p)?)
     }
 

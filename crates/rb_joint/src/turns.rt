@@ -1,9 +1,10 @@
 ghost use Rattle.std.specs.Prelude.{◌≡◌, IfOk, IfErr};
-ghost use Rattle.rb_num.specs.Arith.{intervals};
-ghost use Rattle.rb_joint.specs.Rules.{rotation_x as rotation_x_of, rotation_y as rotation_y_of, rotation_z as rotation_z_of, rotation as rotation_of};
-ghost use Rattle.rb_joint.specs.Rules.{axis_products as axis_products_of, about_x as about_x_of, about_y as about_y_of, about_z as about_z_of, turn_about as turn_about_of, turn_level as turn_level_of};
-ghost use Rattle.rb_joint.specs.Rules.{quaternion_x as quaternion_x_of, quaternion_y as quaternion_y_of, quaternion_z as quaternion_z_of, twice as twice_of, turn_of as turn_of_quaternion};
-ghost use Rattle.rb_joint.specs.Encloses.{EnclosesRotation, EnclosesAxisProducts, EnclosesTurnAbout, EnclosesTurnLevel, EnclosesTurnOf};
+ghost use Rattle.rb_num.specs.Arith.{intervals, signs_of};
+ghost use Rattle.rb_flat.specs.Turns.{about_z as about_z_of};
+ghost use Rattle.rb_joint.specs.Turns.{rotation_row_x as rotation_row_x_of, rotation_row_y as rotation_row_y_of, rotation_row_z as rotation_row_z_of, rotation as rotation_of};
+ghost use Rattle.rb_joint.specs.Turns.{axis_products as axis_products_of, axis_row_x as axis_row_x_of, axis_row_y as axis_row_y_of, axis_row_z as axis_row_z_of, turn_about as turn_about_of};
+ghost use Rattle.rb_joint.specs.Turns.{quaternion_row_x as quaternion_row_x_of, quaternion_row_y as quaternion_row_y_of, quaternion_row_z as quaternion_row_z_of, twice as twice_of, turn_of as turn_of_quaternion};
+ghost use Rattle.rb_joint.specs.Turns.{EnclosesRotation, EnclosesAxisProducts, EnclosesTurnAbout, EnclosesTurnLevel, EnclosesTurnOf};
 
 use rb_num::{Iv, NumFault, dot};
 use rb_spatial::{Mat3, Sym3, Vec3};
@@ -11,16 +12,16 @@ use std::marker::Model;
 
 /// An angle by its sine and cosine.
 #[derive(Clone, Copy, Debug, PartialEq, Eq)]
-pub struct Turn {
+pub struct SineCosine {
     pub sin: Iv,
     pub cos: Iv,
 }
 
-impl Model for Turn {
+impl Model for SineCosine {
     ghost use Rattle.rb_num.specs.Interval.{Interval};
-    ghost use Rattle.rb_flat.specs.Tables as T;
+    ghost use Rattle.rb_frac.specs.Spatial as S;
 
-    ghost Value = { T.Turn Interval };
+    ghost Value = { S.SineCosine Interval };
 
     ghost view = { λ t. record { sin = t.sin; cos = t.cos } };
 
@@ -38,18 +39,24 @@ pub struct Quaternion {
 
 impl Model for Quaternion {
     ghost use Rattle.rb_num.specs.Interval.{Interval};
-    ghost use Rattle.rb_flat.specs.Tables as T;
+    ghost use Rattle.rb_frac.specs.Spatial as S;
 
-    ghost Value = { T.Quaternion Interval };
+    ghost Value = { S.Quaternion Interval };
 
     ghost view = { λ q. record { x = q.x; y = q.y; z = q.z; w = q.w } };
 
     ghost inverse = { λ q. record { x = q.x; y = q.y; z = q.z; w = q.w } };
 }
 
-#[tactic(auto, unfolding(crate::specs::Rules::rotation_x))]
-fn rotation_x(roll: &Turn, pitch: &Turn, yaw: &Turn, t1: Iv, t2: Iv) -> Result<Vec3, NumFault>
-    ensures exact { result ≡ rotation_x_of intervals roll.now pitch.now yaw.now t1 t2 }
+#[tactic(auto, unfolding(crate::specs::Turns::rotation_row_x))]
+fn rotation_row_x(
+    roll: &SineCosine,
+    pitch: &SineCosine,
+    yaw: &SineCosine,
+    t1: Iv,
+    t2: Iv,
+) -> Result<Vec3, NumFault>
+    ensures exact { result ≡ rotation_row_x_of intervals roll.now pitch.now yaw.now t1 t2 }
     ensures size { IfErr result (λ e. e ≡ NumFault.Size) }
 {
     let x = dot(&[(yaw.cos, pitch.cos)])?;
@@ -58,9 +65,15 @@ fn rotation_x(roll: &Turn, pitch: &Turn, yaw: &Turn, t1: Iv, t2: Iv) -> Result<V
     Ok(Vec3::new(x, y, z))
 }
 
-#[tactic(auto, unfolding(crate::specs::Rules::rotation_y))]
-fn rotation_y(roll: &Turn, pitch: &Turn, yaw: &Turn, t1: Iv, t2: Iv) -> Result<Vec3, NumFault>
-    ensures exact { result ≡ rotation_y_of intervals roll.now pitch.now yaw.now t1 t2 }
+#[tactic(auto, unfolding(crate::specs::Turns::rotation_row_y))]
+fn rotation_row_y(
+    roll: &SineCosine,
+    pitch: &SineCosine,
+    yaw: &SineCosine,
+    t1: Iv,
+    t2: Iv,
+) -> Result<Vec3, NumFault>
+    ensures exact { result ≡ rotation_row_y_of intervals roll.now pitch.now yaw.now t1 t2 }
     ensures size { IfErr result (λ e. e ≡ NumFault.Size) }
 {
     let x = dot(&[(yaw.sin, pitch.cos)])?;
@@ -69,9 +82,9 @@ fn rotation_y(roll: &Turn, pitch: &Turn, yaw: &Turn, t1: Iv, t2: Iv) -> Result<V
     Ok(Vec3::new(x, y, z))
 }
 
-#[tactic(auto, unfolding(crate::specs::Rules::rotation_z))]
-fn rotation_z(roll: &Turn, pitch: &Turn) -> Result<Vec3, NumFault>
-    ensures exact { result ≡ rotation_z_of intervals roll.now pitch.now }
+#[tactic(auto, unfolding(crate::specs::Turns::rotation_row_z))]
+fn rotation_row_z(roll: &SineCosine, pitch: &SineCosine) -> Result<Vec3, NumFault>
+    ensures exact { result ≡ rotation_row_z_of intervals roll.now pitch.now }
     ensures size { IfErr result (λ e. e ≡ NumFault.Size) }
 {
     let y = dot(&[(pitch.cos, roll.sin)])?;
@@ -81,23 +94,23 @@ fn rotation_z(roll: &Turn, pitch: &Turn) -> Result<Vec3, NumFault>
 
 /// The turn of roll, pitch and yaw: about z by yaw, of that about y by pitch, of that about x by
 /// roll. It is refused with `Size` exactly where one of its sums of products is.
-#[tactic(auto, unfolding(crate::specs::Rules::rotation))]
-pub fn rotation(roll: &Turn, pitch: &Turn, yaw: &Turn) -> Result<Mat3, NumFault>
+#[tactic(auto, unfolding(crate::specs::Turns::rotation))]
+pub fn rotation(roll: &SineCosine, pitch: &SineCosine, yaw: &SineCosine) -> Result<Mat3, NumFault>
     ensures exact { result ≡ rotation_of intervals roll.now pitch.now yaw.now }
     ensures encloses { IfOk result (EnclosesRotation roll.now pitch.now yaw.now) }
     ensures size { IfErr result (λ e. e ≡ NumFault.Size) }
 {
     let t1 = dot(&[(pitch.sin, roll.sin)])?;
     let t2 = dot(&[(pitch.sin, roll.cos)])?;
-    let x = rotation_x(roll, pitch, yaw, t1, t2)?;
-    let y = rotation_y(roll, pitch, yaw, t1, t2)?;
-    let z = rotation_z(roll, pitch)?;
+    let x = rotation_row_x(roll, pitch, yaw, t1, t2)?;
+    let y = rotation_row_y(roll, pitch, yaw, t1, t2)?;
+    let z = rotation_row_z(roll, pitch)?;
     Ok(Mat3::new(x, y, z))
 }
 
 /// Of an axis: on the diagonal the squared distances from the coordinate axes, and above it the
 /// products. It is refused with `Size` exactly where one of these is.
-#[tactic(auto, unfolding(crate::specs::Rules::axis_products))]
+#[tactic(auto, unfolding(crate::specs::Turns::axis_products))]
 pub fn axis_products(a: &Vec3) -> Result<Sym3, NumFault>
     ensures exact { result ≡ axis_products_of intervals a.now }
     ensures encloses { IfOk result (EnclosesAxisProducts a.now) }
@@ -120,9 +133,9 @@ pub fn axis_products(a: &Vec3) -> Result<Sym3, NumFault>
     })
 }
 
-#[tactic(auto, unfolding(crate::specs::Rules::about_x))]
-fn about_x(a: &Vec3, p: &Sym3, s: Iv, k: Iv) -> Result<Vec3, NumFault>
-    ensures exact { result ≡ about_x_of intervals a.now p.now s k }
+#[tactic(auto, unfolding(crate::specs::Turns::axis_row_x))]
+fn axis_row_x(a: &Vec3, p: &Sym3, s: Iv, k: Iv) -> Result<Vec3, NumFault>
+    ensures exact { result ≡ axis_row_x_of intervals a.now p.now s k }
     ensures size { IfErr result (λ e. e ≡ NumFault.Size) }
 {
     let x = dot(&[(Iv::ONE, Iv::ONE), (k.neg(), p.xx)])?;
@@ -131,9 +144,9 @@ fn about_x(a: &Vec3, p: &Sym3, s: Iv, k: Iv) -> Result<Vec3, NumFault>
     Ok(Vec3::new(x, y, z))
 }
 
-#[tactic(auto, unfolding(crate::specs::Rules::about_y))]
-fn about_y(a: &Vec3, p: &Sym3, s: Iv, k: Iv) -> Result<Vec3, NumFault>
-    ensures exact { result ≡ about_y_of intervals a.now p.now s k }
+#[tactic(auto, unfolding(crate::specs::Turns::axis_row_y))]
+fn axis_row_y(a: &Vec3, p: &Sym3, s: Iv, k: Iv) -> Result<Vec3, NumFault>
+    ensures exact { result ≡ axis_row_y_of intervals a.now p.now s k }
     ensures size { IfErr result (λ e. e ≡ NumFault.Size) }
 {
     let x = dot(&[(k, p.xy), (a.z(), s)])?;
@@ -142,9 +155,9 @@ fn about_y(a: &Vec3, p: &Sym3, s: Iv, k: Iv) -> Result<Vec3, NumFault>
     Ok(Vec3::new(x, y, z))
 }
 
-#[tactic(auto, unfolding(crate::specs::Rules::about_z))]
-fn about_z(a: &Vec3, p: &Sym3, s: Iv, k: Iv) -> Result<Vec3, NumFault>
-    ensures exact { result ≡ about_z_of intervals a.now p.now s k }
+#[tactic(auto, unfolding(crate::specs::Turns::axis_row_z))]
+fn axis_row_z(a: &Vec3, p: &Sym3, s: Iv, k: Iv) -> Result<Vec3, NumFault>
+    ensures exact { result ≡ axis_row_z_of intervals a.now p.now s k }
     ensures size { IfErr result (λ e. e ≡ NumFault.Size) }
 {
     let x = dot(&[(k, p.xz), (a.y().neg(), s)])?;
@@ -156,23 +169,23 @@ fn about_z(a: &Vec3, p: &Sym3, s: Iv, k: Iv) -> Result<Vec3, NumFault>
 /// The turn about the axis `a`, whose products are `p`: the identity, plus the sine times the table
 /// of the cross product with `a`, plus one less the cosine times its square. It is refused with
 /// `Size` exactly where one of its steps is.
-#[tactic(auto, unfolding(crate::specs::Rules::turn_about))]
-pub fn turn_about(a: &Vec3, p: &Sym3, t: &Turn) -> Result<Mat3, NumFault>
+#[tactic(auto, unfolding(crate::specs::Turns::turn_about))]
+pub fn turn_about(a: &Vec3, p: &Sym3, t: &SineCosine) -> Result<Mat3, NumFault>
     ensures exact { result ≡ turn_about_of intervals a.now p.now t.now }
     ensures encloses { IfOk result (EnclosesTurnAbout a.now p.now t.now) }
     ensures size { IfErr result (λ e. e ≡ NumFault.Size) }
 {
     let k = Iv::ONE.sub(t.cos)?;
-    let x = about_x(a, p, t.sin, k)?;
-    let y = about_y(a, p, t.sin, k)?;
-    let z = about_z(a, p, t.sin, k)?;
+    let x = axis_row_x(a, p, t.sin, k)?;
+    let y = axis_row_y(a, p, t.sin, k)?;
+    let z = axis_row_z(a, p, t.sin, k)?;
     Ok(Mat3::new(x, y, z))
 }
 
 /// The turn about the third axis.
-#[tactic(auto, unfolding(crate::specs::Rules::turn_level))]
-pub fn turn_level(t: &Turn) -> Mat3
-    ensures exact { result ≡ turn_level_of intervals t.now }
+#[tactic(auto, unfolding(rb_flat::specs::Turns::about_z))]
+pub fn turn_level(t: &SineCosine) -> Mat3
+    ensures exact { result ≡ about_z_of (signs_of intervals) t.now }
     ensures encloses { EnclosesTurnLevel t.now result }
 {
     Mat3::new(
@@ -182,9 +195,9 @@ pub fn turn_level(t: &Turn) -> Mat3
     )
 }
 
-#[tactic(auto, unfolding(crate::specs::Rules::quaternion_x))]
-fn quaternion_x(q: &Quaternion, d: &Vec3) -> Result<Vec3, NumFault>
-    ensures exact { result ≡ quaternion_x_of intervals q.now d.now }
+#[tactic(auto, unfolding(crate::specs::Turns::quaternion_row_x))]
+fn quaternion_row_x(q: &Quaternion, d: &Vec3) -> Result<Vec3, NumFault>
+    ensures exact { result ≡ quaternion_row_x_of intervals q.now d.now }
     ensures size { IfErr result (λ e. e ≡ NumFault.Size) }
 {
     let x = dot(&[(Iv::ONE, Iv::ONE), (d.y().neg(), q.y), (d.z().neg(), q.z)])?;
@@ -193,9 +206,9 @@ fn quaternion_x(q: &Quaternion, d: &Vec3) -> Result<Vec3, NumFault>
     Ok(Vec3::new(x, y, z))
 }
 
-#[tactic(auto, unfolding(crate::specs::Rules::quaternion_y))]
-fn quaternion_y(q: &Quaternion, d: &Vec3) -> Result<Vec3, NumFault>
-    ensures exact { result ≡ quaternion_y_of intervals q.now d.now }
+#[tactic(auto, unfolding(crate::specs::Turns::quaternion_row_y))]
+fn quaternion_row_y(q: &Quaternion, d: &Vec3) -> Result<Vec3, NumFault>
+    ensures exact { result ≡ quaternion_row_y_of intervals q.now d.now }
     ensures size { IfErr result (λ e. e ≡ NumFault.Size) }
 {
     let x = dot(&[(d.x(), q.y), (d.z(), q.w)])?;
@@ -204,9 +217,9 @@ fn quaternion_y(q: &Quaternion, d: &Vec3) -> Result<Vec3, NumFault>
     Ok(Vec3::new(x, y, z))
 }
 
-#[tactic(auto, unfolding(crate::specs::Rules::quaternion_z))]
-fn quaternion_z(q: &Quaternion, d: &Vec3) -> Result<Vec3, NumFault>
-    ensures exact { result ≡ quaternion_z_of intervals q.now d.now }
+#[tactic(auto, unfolding(crate::specs::Turns::quaternion_row_z))]
+fn quaternion_row_z(q: &Quaternion, d: &Vec3) -> Result<Vec3, NumFault>
+    ensures exact { result ≡ quaternion_row_z_of intervals q.now d.now }
     ensures size { IfErr result (λ e. e ≡ NumFault.Size) }
 {
     let x = dot(&[(d.x(), q.z), (d.y().neg(), q.w)])?;
@@ -216,7 +229,7 @@ fn quaternion_z(q: &Quaternion, d: &Vec3) -> Result<Vec3, NumFault>
 }
 
 // Twice the vector part.
-#[tactic(auto, unfolding(crate::specs::Rules::twice))]
+#[tactic(auto, unfolding(crate::specs::Turns::twice))]
 fn twice(q: &Quaternion) -> Result<Vec3, NumFault>
     ensures exact { result ≡ twice_of intervals q.now }
     ensures size { IfErr result (λ e. e ≡ NumFault.Size) }
@@ -230,15 +243,15 @@ fn twice(q: &Quaternion) -> Result<Vec3, NumFault>
 /// The turn of a quaternion: the identity, plus twice `w` times the table of the cross product with
 /// the vector part, plus twice its square. It is refused with `Size` exactly where one of its steps
 /// is.
-#[tactic(auto, unfolding(crate::specs::Rules::turn_of))]
+#[tactic(auto, unfolding(crate::specs::Turns::turn_of))]
 pub fn turn_of(q: &Quaternion) -> Result<Mat3, NumFault>
     ensures exact { result ≡ turn_of_quaternion intervals q.now }
     ensures encloses { IfOk result (EnclosesTurnOf q.now) }
     ensures size { IfErr result (λ e. e ≡ NumFault.Size) }
 {
     let d = twice(q)?;
-    let x = quaternion_x(q, &d)?;
-    let y = quaternion_y(q, &d)?;
-    let z = quaternion_z(q, &d)?;
+    let x = quaternion_row_x(q, &d)?;
+    let y = quaternion_row_y(q, &d)?;
+    let z = quaternion_row_z(q, &d)?;
     Ok(Mat3::new(x, y, z))
 }

@@ -1,5 +1,5 @@
 use Rattle.std.proofs.Common.{rules}
-use Rattle.rb_joint.specs.Models.{frame_by}
+use Rattle.rb_joint.specs.Frames.{frame_by}
 use Rattle.rb_joint.proofs.Choices.{frame_answer}
 use Rattle.rb_joint.proofs.Ranges.{frame_range}
 use Rattle.rb_joint.proofs.frames.frame_of.Goals as goal

@@ -1,4 +1,4 @@
-use Rattle.rb_joint.proofs.Identities.{rotation-product, turn_about-axis, turn_level-about_z, turn_of-quaternion}
+use Rattle.rb_joint.proofs.Identities.{rotation-product, turn_about-axis, turn_of-quaternion}
 use Rattle.rb_joint.proofs.laws.turns.Goals as goal
 
 pub returns-clause-rotation : goal.returns-clause-rotation
@@ -6,9 +6,6 @@ returns-clause-rotation c = rotation-product
 
 pub returns-clause-about : goal.returns-clause-about
 returns-clause-about c = turn_about-axis
-
-pub returns-clause-level : goal.returns-clause-level
-returns-clause-level c = turn_level-about_z
 
 pub returns-clause-quaternion : goal.returns-clause-quaternion
 returns-clause-quaternion c = turn_of-quaternion

@@ -1,5 +1,5 @@
 use Rattle.std.proofs.Common.{rules}
-use Rattle.rb_joint.specs.Rules.{place_shifted}
+use Rattle.rb_joint.specs.Places.{place_shifted}
 use Rattle.rb_num.proofs.Bridges.{to_intervals, ok_met}
 use Rattle.rb_joint.proofs.Keep.{place_shifted_met}
 use Rattle.rb_joint.proofs.places.place_shifted.Goals as goal

@@ -1,5 +1,5 @@
 use Rattle.std.proofs.Common.{rules}
-use Rattle.rb_joint.specs.Rules.{axis_products}
+use Rattle.rb_joint.specs.Turns.{axis_products}
 use Rattle.rb_num.proofs.Bridges.{to_intervals, ok_met}
 use Rattle.rb_joint.proofs.Keep.{axis_products_met}
 use Rattle.rb_joint.proofs.turns.axis_products.Goals as goal

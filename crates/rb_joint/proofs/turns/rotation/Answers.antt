@@ -1,5 +1,5 @@
 use Rattle.std.proofs.Common.{rules}
-use Rattle.rb_joint.specs.Rules.{rotation}
+use Rattle.rb_joint.specs.Turns.{rotation}
 use Rattle.rb_num.proofs.Bridges.{to_intervals, ok_met}
 use Rattle.rb_joint.proofs.Keep.{rotation_met}
 use Rattle.rb_joint.proofs.turns.rotation.Goals as goal

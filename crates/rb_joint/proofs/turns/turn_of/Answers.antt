@@ -1,5 +1,5 @@
 use Rattle.std.proofs.Common.{rules}
-use Rattle.rb_joint.specs.Rules.{turn_of}
+use Rattle.rb_joint.specs.Turns.{turn_of}
 use Rattle.rb_num.proofs.Bridges.{to_intervals, ok_met}
 use Rattle.rb_joint.proofs.Keep.{turn_of_met}
 use Rattle.rb_joint.proofs.turns.turn_of.Goals as goal

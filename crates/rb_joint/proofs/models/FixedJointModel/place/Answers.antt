@@ -1,5 +1,5 @@
 use Rattle.std.proofs.Common.{rules}
-use Rattle.rb_joint.specs.Rules.{place_fixed}
+use Rattle.rb_joint.specs.Models.{place_fixed}
 use Rattle.rb_joint.specs.Models.{fixed_place}
 use Rattle.rb_joint.proofs.Choices.{fixed_answer}
 use Rattle.rb_joint.proofs.models.FixedJointModel.place.Goals as goal

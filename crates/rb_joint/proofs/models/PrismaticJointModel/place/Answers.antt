@@ -1,5 +1,5 @@
 use Rattle.std.proofs.Common.{rules}
-use Rattle.rb_joint.specs.Rules.{place_along}
+use Rattle.rb_joint.specs.Models.{place_along}
 use Rattle.rb_joint.specs.Models.{prismatic_place}
 use Rattle.rb_joint.proofs.Choices.{prismatic_answer}
 use Rattle.rb_joint.proofs.models.PrismaticJointModel.place.Goals as goal

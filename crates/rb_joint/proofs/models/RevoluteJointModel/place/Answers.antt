@@ -1,5 +1,5 @@
 use Rattle.std.proofs.Common.{rules}
-use Rattle.rb_joint.specs.Rules.{place_turned}
+use Rattle.rb_joint.specs.Models.{place_turned}
 use Rattle.rb_joint.specs.Models.{revolute_place}
 use Rattle.rb_joint.proofs.Choices.{revolute_answer}
 use Rattle.rb_joint.proofs.models.RevoluteJointModel.place.Goals as goal
