@@ -4,14 +4,10 @@ use Rattle.rb_num.specs.Arith.{Arith}
 use Rattle.rb_num.proofs.Relates.{Relates, Met, dot_met, ret_met, then_met}
 use Rattle.rb_frac.specs.Tables.{Table, Symmetric, Vectors, Tables, Symmetrics}
 use Rattle.rb_frac.specs.Spatial.{BodyInertias}
-use Rattle.rb_spatial.proofs.Keep.{three_met, six_met, full_rel, product_met, upper_product_met}
-use Rattle.rb_body.specs.Rules.{scaled, turned, moved, body}
+use Rattle.rb_spatial.proofs.Keep.{six_met, multiple_met, full_rel, product_met, upper_product_met}
+use Rattle.rb_body.specs.Inertia.{turned, moved, body}
 
 module _ {R Q : Arith} (K : Relates R Q) where
-  pub scaled_met : {k : R.N} {v : V3 R.N} {k' : Q.N} {v' : V3 Q.N} → K.rel k k' → Vectors K.rel v v' → Met K (Vectors K.rel) (scaled R k v) (scaled Q k' v')
-  unfolding scaled
-  scaled_met hk hv = three_met K (dot_met K _ _ (hk, hv.x, tt)) (dot_met K _ _ (hk, hv.y, tt)) (dot_met K _ _ (hk, hv.z, tt))
-
   turned_met : {r : Table R.N} {j : Symmetric R.N} {r' : Table Q.N} {j' : Symmetric Q.N} → Tables K.rel r r' → Symmetrics K.rel j j' → Met K (Symmetrics K.rel) (turned R r j) (turned Q r' j')
   unfolding turned
   turned_met hr hj = then_met K (product_met K hr (full_rel K hj)) (λ _ _ ht. upper_product_met K ht hr)
@@ -24,5 +20,5 @@ module _ {R Q : Arith} (K : Relates R Q) where
   unfolding body
   body_met hr hm hc hj =
       then_met K (turned_met hr hj) (λ _ _ ht.
-      then_met K (scaled_met hm hc) (λ _ _ hh.
+      then_met K (multiple_met K hm hc) (λ _ _ hh.
       then_met K (moved_met ht hh hc) (λ _ _ hi. ret_met K (record { mass = hm; first = hh; six = hi }))))

@@ -16,39 +16,39 @@ use Rattle.rb_flat.specs.Choice.{LinkBrackets}
 use Rattle.rb_joint.specs.declared.any.AnyJoint.{AnyJoint}
 use Rattle.rb_joint.specs.declared.faults.JointFault.{JointFault}
 use Rattle.rb_joint.specs.declared.faults.JointFault.TheVariants as Frame
-use Rattle.rb_joint.specs.Choices.{AreAngles}
-use Rattle.rb_joint.specs.Models.{frame_by, axial_by}
+use Rattle.rb_joint.specs.Frames.{AreAngles, frame_by}
+use Rattle.rb_joint.specs.Models.{axial_by}
 use Rattle.rb_joint.proofs.Ranges.{frame_range}
 use Rattle.rb_body.specs.declared.faults.BodyFault.{BodyFault}
 use Rattle.rb_body.specs.declared.faults.BodyFault.TheVariants.{AngleRange, ZeroAxis, Size}
 use Rattle.rb_urdf.specs.declared.robot.UrdfKind.{UrdfKind}
 use Rattle.rb_urdf.specs.declared.robot.UrdfKind.TheVariants.{Fixed, Revolute, Prismatic, Continuous, Planar, Floating}
 use Rattle.rb_body.specs.declared.raw.JointRaw.{JointRaw}
-use Rattle.rb_body.specs.Faults.{of_frame, of_axis, of_number, step}
-use Rattle.rb_result.specs.Steps.{◌>>=◌}
+use Rattle.rb_body.specs.Faults.{of_frame, of_axis, of_number}
+use Rattle.rb_result.specs.Steps.{◌>>=◌, told_as}
 use Rattle.rb_body.specs.Raw.{HasModel, HasAxis}
-use Rattle.rb_body.specs.Rules.{scaled, body}
-use Rattle.rb_body.specs.Tables.{symmetric}
-use Rattle.rb_body.specs.Constants.{inertia_by, axis_by, revolute_by, prismatic_by, joint_in, joint_by, IsZeroAxis}
+use Rattle.rb_spatial.specs.Motions.{multiple}
+use Rattle.rb_body.specs.Inertia.{body, inertia_by}
+use Rattle.rb_body.specs.Joint.{axis_by, revolute_by, prismatic_by, joint_in, joint_by, IsZeroAxis}
 
 -- ---- steps
 -- a step of numbers is refused with `Size` alone
-sized : {A : Type 0} (r : Result A NumFault) (e : BodyFault) → step of_number r ≡ Err e → e ≡ Size
+sized : {A : Type 0} (r : Result A NumFault) (e : BodyFault) → told_as of_number r ≡ Err e → e ≡ Size
 sized (Ok x) e h = cc
 sized (Err d) e h = cc
 
 -- two steps are refused as the first is, where the second is never refused so
-next_refused : {A B : Type 0} (e : BodyFault) (r : Result A BodyFault) (g : A → Result B BodyFault) → ((x : A) → g x ≡ Err e → ⊥) → (next r g ≡ Err e) ↔ (r ≡ Err e)
+next_refused : {A B : Type 0} (e : BodyFault) (r : Result A BodyFault) (g : A → Result B BodyFault) → ((x : A) → g x ≡ Err e → ⊥) → ((r >>= g) ≡ Err e) ↔ (r ≡ Err e)
 next_refused e (Ok x) g h = (λ k. absurd (h x k), λ k. cc)
 next_refused e (Err d) g h = (λ k. cc, λ k. cc)
 
 -- ---- frames
-framed_range : {B : Type 0} (N : Type 0) (r : Result (Frame Interval) JointFault) (g : Frame Interval → Result B BodyFault) → ((f : Frame Interval) → g f ≡ Err AngleRange → ⊥) → (r ≡ Err Frame.Range) ↔ N → (next (step of_frame r) g ≡ Err AngleRange) ↔ N
+framed_range : {B : Type 0} (N : Type 0) (r : Result (Frame Interval) JointFault) (g : Frame Interval → Result B BodyFault) → ((f : Frame Interval) → g f ≡ Err AngleRange → ⊥) → (r ≡ Err Frame.Range) ↔ N → ((told_as of_frame r >>= g) ≡ Err AngleRange) ↔ N
 framed_range N (Ok f) g h i = (λ k. absurd (h f k), λ n. let e = i.1 n in cc)
 framed_range N (Err Frame.Range) g h i = (λ k. i.0 refl, λ n. refl)
 framed_range N (Err Frame.Size) g h i = (λ k. cc, λ n. let e = i.1 n in cc)
 
-framed_axis : {B : Type 0} (r : Result (Frame Interval) JointFault) (g : Frame Interval → Result B BodyFault) → next (step of_frame r) g ≡ Err ZeroAxis → (f : Frame Interval) × (r ≡ Ok f) × (g f ≡ Err ZeroAxis)
+framed_axis : {B : Type 0} (r : Result (Frame Interval) JointFault) (g : Frame Interval → Result B BodyFault) → (told_as of_frame r >>= g) ≡ Err ZeroAxis → (f : Frame Interval) × (r ≡ Ok f) × (g f ≡ Err ZeroAxis)
 framed_axis (Ok f) g h = (f, refl, h)
 framed_axis (Err Frame.Range) g h = cc
 framed_axis (Err Frame.Size) g h = cc
@@ -57,19 +57,19 @@ framed_axis (Err Frame.Size) g h = cc
 pub link_range : (l : LinkBrackets) (r : Result (BodyInertia Interval) BodyFault) → r ≡ inertia_by l → (r ≡ Err AngleRange) ↔ (¬ AreAngles l.rpy)
 unfolding inertia_by
 link_range l r e =
-    rw e (framed_range _ (frame_by l.centre l.rpy) _ (λ f h. let s = sized (body intervals f.rot l.mass l.centre (symmetric l.six)) _ h in cc) (frame_range l.centre l.rpy _ refl))
+    rw e (framed_range _ (frame_by l.centre l.rpy) _ (λ f h. let s = sized (body intervals f.rot l.mass l.centre l.six) _ h in cc) (frame_range l.centre l.rpy _ refl))
 
 pub link_axis : (l : LinkBrackets) (r : Result (BodyInertia Interval) BodyFault) → r ≡ inertia_by l → r ≡ Err ZeroAxis → ⊥
 unfolding inertia_by
 link_axis l r e h =
     let k = framed_axis (frame_by l.centre l.rpy) _ (rw e at h) in
-    let s = sized (body intervals k.0.rot l.mass l.centre (symmetric l.six)) _ k.2 in
+    let s = sized (body intervals k.0.rot l.mass l.centre l.six) _ k.2 in
     cc
 
 -- ---- axes
 -- the second step of `axis_by`
 abbrev times : Interval → Result (V3 Interval) NumFault → Result (Interval × V3 Interval) BodyFault
-times k r = next {B = Interval × V3 Interval} (step of_number r) (λ a. Ok (k, a))
+times k r = told_as of_number r >>= λ a. Ok (k, a)
 
 times_sized : (k : Interval) (r : Result (V3 Interval) NumFault) (e : BodyFault) → times k r ≡ Err e → e ≡ Size
 times_sized k (Ok a) e h = cc
@@ -79,8 +79,8 @@ axis_range : (v : V3 Interval) → axis_by v ≡ Err AngleRange → ⊥
 unfolding axis_by
 axis_range v h = go (unit_scale_of v.x v.y v.z) h
   where
-    go : (r : Result Interval AxisFault) → next (step of_axis r) (λ k. times k (scaled intervals k v)) ≡ Err AngleRange → ⊥
-    go (Ok k) h = let e = times_sized k (scaled intervals k v) AngleRange h in cc
+    go : (r : Result Interval AxisFault) → (told_as of_axis r >>= λ k. times k (multiple intervals k v)) ≡ Err AngleRange → ⊥
+    go (Ok k) h = let e = times_sized k (multiple intervals k v) AngleRange h in cc
     go (Err Axis.Size) h = cc
     go (Err Axis.ZeroAxis) h = cc
 
@@ -92,8 +92,8 @@ axis_zero : (v : V3 Interval) → (axis_by v ≡ Err ZeroAxis) ↔ MayBeZero v
 unfolding axis_by
 axis_zero v = go (unit_scale_of v.x v.y v.z) (zeros v.x v.y v.z _ refl)
   where
-    go : (r : Result Interval AxisFault) → (r ≡ Err Axis.ZeroAxis) ↔ MayBeZero v → (next (step of_axis r) (λ k. times k (scaled intervals k v)) ≡ Err ZeroAxis) ↔ MayBeZero v
-    go (Ok k) i = (λ h. let e = times_sized k (scaled intervals k v) ZeroAxis h in cc, λ z. let e = i.1 z in cc)
+    go : (r : Result Interval AxisFault) → (r ≡ Err Axis.ZeroAxis) ↔ MayBeZero v → ((told_as of_axis r >>= λ k. times k (multiple intervals k v)) ≡ Err ZeroAxis) ↔ MayBeZero v
+    go (Ok k) i = (λ h. let e = times_sized k (multiple intervals k v) ZeroAxis h in cc, λ z. let e = i.1 z in cc)
     go (Err Axis.Size) i = (λ h. cc, λ z. let e = i.1 z in cc)
     go (Err Axis.ZeroAxis) i = (λ h. i.0 refl, λ z. refl)
 
@@ -106,7 +106,7 @@ revolute_refused : (f : Frame Interval) (xyz rpy axis : List Interval) (e : Body
 unfolding revolute_by
 revolute_refused f xyz rpy axis e n = next_refused e (axis_by (vector_of axis)) _ (λ a h. n (sized_next (axial_by f a.1) _ h))
   where
-    sized_next : {A B : Type 0} (r : Result A NumFault) (g : A → B) → next (step of_number r) (λ x. Ok (g x)) ≡ Err e → e ≡ Size
+    sized_next : {A B : Type 0} (r : Result A NumFault) (g : A → B) → (told_as of_number r >>= λ x. Ok (g x)) ≡ Err e → e ≡ Size
     sized_next (Ok x) g h = cc
     sized_next (Err d) g h = cc
 
@@ -143,15 +143,15 @@ pub joint_zero : (kind : UrdfKind) (xyz rpy axis : List Interval) (r : Made) →
 unfolding joint_by
 joint_zero kind xyz rpy axis r m e = rw e (to, from)
   where
-    to : next (step of_frame (frame_by (vector_of xyz) (vector_of rpy))) (λ f. joint_in kind f xyz rpy axis) ≡ Err ZeroAxis → IsZeroAxis kind (vector_of xyz) (vector_of rpy) (vector_of axis)
+    to : (told_as of_frame (frame_by (vector_of xyz) (vector_of rpy)) >>= λ f. joint_in kind f xyz rpy axis) ≡ Err ZeroAxis → IsZeroAxis kind (vector_of xyz) (vector_of rpy) (vector_of axis)
     to h =
         let k = framed_axis (frame_by (vector_of xyz) (vector_of rpy)) _ h in
         let z = (in_zero kind k.0 xyz rpy axis m).0 k.2 in
         record { frame = rw k.1 refl; needed = z.0; fits = z.1.0; zero = z.1.1 }
 
-    from : IsZeroAxis kind (vector_of xyz) (vector_of rpy) (vector_of axis) → next (step of_frame (frame_by (vector_of xyz) (vector_of rpy))) (λ f. joint_in kind f xyz rpy axis) ≡ Err ZeroAxis
+    from : IsZeroAxis kind (vector_of xyz) (vector_of rpy) (vector_of axis) → (told_as of_frame (frame_by (vector_of xyz) (vector_of rpy)) >>= λ f. joint_in kind f xyz rpy axis) ≡ Err ZeroAxis
     from z = go (frame_by (vector_of xyz) (vector_of rpy)) z.frame
       where
-        go : (s : Result (Frame Interval) JointFault) → IsOk s → next (step of_frame s) (λ f. joint_in kind f xyz rpy axis) ≡ Err ZeroAxis
+        go : (s : Result (Frame Interval) JointFault) → IsOk s → (told_as of_frame s >>= λ f. joint_in kind f xyz rpy axis) ≡ Err ZeroAxis
         go (Ok f) i = (in_zero kind f xyz rpy axis m).1 (z.needed, (z.fits, z.zero))
         go (Err d) i = cc

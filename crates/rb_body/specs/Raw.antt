@@ -1,6 +1,4 @@
 -- What the numbers of a link and of a joint are to the equations: brackets, and a kind.
-use Rattle.std.specs.Prelude.{List}
-use Rattle.rb_num.specs.Interval.{Interval}
 use Rattle.rb_spatial.specs.Vectors.{vector_of, symmetric_of}
 use Rattle.rb_flat.specs.Joint as Flat
 use Rattle.rb_flat.specs.Joint.{Kind}
@@ -9,7 +7,6 @@ use Rattle.rb_urdf.specs.declared.robot.UrdfKind.{UrdfKind}
 use Rattle.rb_urdf.specs.declared.robot.UrdfKind.TheVariants.{Fixed, Revolute, Prismatic, Continuous, Planar, Floating}
 use Rattle.rb_body.specs.declared.raw.LinkRaw.{LinkRaw}
 use Rattle.rb_body.specs.declared.raw.JointRaw.{JointRaw}
-use Rattle.rb_body.specs.Tables.{flat}
 
 -- the kind in the joint relation
 abbrev pub kind_of : UrdfKind → Kind
@@ -43,16 +40,13 @@ link_brackets l = record {
   mass = l.mass;
   centre = vector_of l.com;
   rpy = vector_of l.rpy;
-  six = flat (symmetric_of l.six);
+  six = symmetric_of l.six;
 }
 
--- with the entries q of the position
-abbrev pub joint_brackets : JointRaw → List Interval → JointBrackets
-joint_brackets j q = record {
-  kind = kind_of j.kind;
+abbrev pub joint_brackets : JointRaw → JointBrackets
+joint_brackets j = record {
   origin = vector_of j.xyz;
   rpy = vector_of j.rpy;
   axis = vector_of j.axis;
   factor = j.factor;
-  entries = q;
 }

@@ -1,21 +1,19 @@
 ghost use Rattle.std.specs.Prelude.{◌≡◌, ◌↔◌, IfOk, IfErr, IsErrOf};
 ghost use Rattle.rb_num.specs.Arith.{intervals};
 ghost use Rattle.rb_spatial.specs.Vectors.{vector_of, symmetric_of};
-ghost use Rattle.rb_joint.specs.Choices.{AreAngles};
+ghost use Rattle.rb_joint.specs.Frames.{AreAngles};
 ghost use Rattle.rb_body.specs.Raw.{link_brackets};
-ghost use Rattle.rb_body.specs.Rules.{turned as turned_of, moved as moved_of, body as body_of};
-ghost use Rattle.rb_body.specs.Constants.{inertia_by};
-ghost use Rattle.rb_body.specs.Encloses.{EnclosesInertia};
+ghost use Rattle.rb_body.specs.Inertia.{turned as turned_of, moved as moved_of, body as body_of, inertia_by, EnclosesInertia};
 
 use crate::faults::BodyFault;
 use crate::raw::LinkRaw;
-use crate::vectors::{scaled, vector};
+use crate::vectors::vector;
 use rb_joint::frame_of;
 use rb_num::{Iv, NumFault, dot};
-use rb_spatial::{BodyInertia, Mat3, Sym3, Vec3, product, upper_product};
+use rb_spatial::{BodyInertia, Mat3, Sym3, Vec3, multiple, product, upper_product};
 
 // The inertia `j` along axes that stand by the rotation `r`.
-#[tactic(auto, unfolding(crate::specs::Rules::turned))]
+#[tactic(auto, unfolding(crate::specs::Inertia::turned))]
 fn turned(r: &Mat3, j: &Sym3) -> Result<Sym3, NumFault>
     ensures exact { result ≡ turned_of intervals r.now j.now }
     ensures size { IfErr result (λ e. e ≡ NumFault.Size) }
@@ -25,7 +23,7 @@ fn turned(r: &Mat3, j: &Sym3) -> Result<Sym3, NumFault>
 }
 
 // The inertia `j` about the centre `c`, taken about the origin, where the first moment is `h`.
-#[tactic(auto, unfolding(crate::specs::Rules::moved))]
+#[tactic(auto, unfolding(crate::specs::Inertia::moved))]
 fn moved(j: &Sym3, h: &Vec3, c: &Vec3) -> Result<Sym3, NumFault>
     ensures exact { result ≡ moved_of intervals j.now h.now c.now }
     ensures size { IfErr result (λ e. e ≡ NumFault.Size) }
@@ -48,13 +46,13 @@ fn moved(j: &Sym3, h: &Vec3, c: &Vec3) -> Result<Sym3, NumFault>
 
 // The body of this mass and centre, whose inertia about the centre is `j` along axes that stand by
 // the rotation `r`.
-#[tactic(auto, unfolding(crate::specs::Rules::body))]
+#[tactic(auto, unfolding(crate::specs::Inertia::body))]
 fn body(r: &Mat3, mass: Iv, centre: &Vec3, j: &Sym3) -> Result<BodyInertia, NumFault>
     ensures exact { result ≡ body_of intervals r.now mass centre.now j.now }
     ensures size { IfErr result (λ e. e ≡ NumFault.Size) }
 {
     let about_centre = turned(r, j)?;
-    let first = scaled(mass, centre)?;
+    let first = multiple(mass, centre)?;
     let six = moved(&about_centre, &first, centre)?;
     Ok(BodyInertia::new(
         mass,
@@ -83,7 +81,7 @@ fn table(six: &[Iv; 6]) -> Sym3
 ///
 /// It is refused with `AngleRange` exactly where an end of an angle is larger in size than eight
 /// radians, else with `Size` exactly where a step is, and never with `ZeroAxis`.
-#[tactic(auto, unfolding(crate::specs::Constants::inertia_by))]
+#[tactic(auto, unfolding(crate::specs::Inertia::inertia_by))]
 pub fn inertia_of(link: &LinkRaw) -> Result<BodyInertia, BodyFault>
     ensures exact { result ≡ inertia_by (link_brackets link.now) }
     ensures encloses { IfOk result (EnclosesInertia (link_brackets link.now)) }

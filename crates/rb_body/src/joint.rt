@@ -1,33 +1,32 @@
 ghost use Rattle.std.specs.Prelude.{◌≡◌, ◌↔◌, IfOk, IsErrOf};
 ghost use Rattle.rb_spatial.specs.Vectors.{vector_of};
 ghost use Rattle.rb_trig.specs.Axis.{MakesUnit};
-ghost use Rattle.rb_joint.specs.Choices.{AreAngles};
+ghost use Rattle.rb_joint.specs.Frames.{AreAngles};
 ghost use Rattle.rb_body.specs.Raw.{HasModel};
-ghost use Rattle.rb_body.specs.Constants.{axis_by, fixed_by, revolute_by, prismatic_by, joint_by, IsZeroAxis, HasNumbers};
-ghost use Rattle.rb_body.specs.Encloses.{EnclosesJoint};
+ghost use Rattle.rb_body.specs.Joint.{axis_by, fixed_by, revolute_by, prismatic_by, joint_by, IsZeroAxis, HasNumbers, EnclosesJoint};
 
 use crate::faults::BodyFault;
 use crate::raw::JointRaw;
-use crate::vectors::{scaled, vector};
+use crate::vectors::vector;
 use rb_joint::{AnyJoint, Fixed, Prismatic, Revolute, frame_of};
 use rb_num::Iv;
-use rb_spatial::{Frame, Vec3};
+use rb_spatial::{Frame, Vec3, multiple};
 use rb_trig::unit_scale;
 use rb_urdf::UrdfKind;
 
 // The factor of the axis, and the axis taken times it.
-#[tactic(auto, unfolding(crate::specs::Constants::axis_by))]
+#[tactic(auto, unfolding(crate::specs::Joint::axis_by))]
 fn unit_axis(axis: &[Iv; 3]) -> Result<(Iv, Vec3), BodyFault>
     ensures exact { result ≡ axis_by (vector_of axis.now) }
     ensures unit { IfOk result (λ r. MakesUnit (vector_of axis.now).x (vector_of axis.now).y (vector_of axis.now).z r.0) }
 {
     let v = vector(axis);
     let factor = unit_scale(v.x(), v.y(), v.z())?;
-    let unit = scaled(factor, &v)?;
+    let unit = multiple(factor, &v)?;
     Ok((factor, unit))
 }
 
-#[tactic(auto, unfolding(crate::specs::Constants::fixed_by))]
+#[tactic(auto, unfolding(crate::specs::Joint::fixed_by))]
 fn fixed(frame: Frame, xyz: [Iv; 3], rpy: [Iv; 3]) -> (AnyJoint, JointRaw)
     ensures { result ≡ fixed_by frame xyz rpy }
 {
@@ -41,7 +40,7 @@ fn fixed(frame: Frame, xyz: [Iv; 3], rpy: [Iv; 3]) -> (AnyJoint, JointRaw)
     (AnyJoint::Fixed(Fixed::new(frame)), raw)
 }
 
-#[tactic(auto, unfolding(crate::specs::Constants::revolute_by))]
+#[tactic(auto, unfolding(crate::specs::Joint::revolute_by))]
 fn revolute(
     frame: Frame,
     xyz: [Iv; 3],
@@ -63,7 +62,7 @@ fn revolute(
     Ok((AnyJoint::Revolute(joint), raw))
 }
 
-#[tactic(auto, unfolding(crate::specs::Constants::prismatic_by))]
+#[tactic(auto, unfolding(crate::specs::Joint::prismatic_by))]
 fn prismatic(
     frame: Frame,
     xyz: [Iv; 3],
@@ -92,7 +91,7 @@ fn prismatic(
 /// It is refused with `AngleRange` exactly where an end of an angle is larger in size than eight
 /// radians, with `ZeroAxis` exactly where the frame is not refused and the axis, of which no square
 /// of an end passes the limit, may be zero, and with `Size` where another step is refused.
-#[tactic(auto, unfolding(crate::specs::Constants::joint_by))]
+#[tactic(auto, unfolding(crate::specs::Joint::joint_by))]
 pub fn joint_of(
     kind: UrdfKind,
     xyz: [Iv; 3],

@@ -28,7 +28,7 @@ use Rattle.rb_joint.proofs.Keep.{place_fixed_met, place_turned_met, place_along_
 use Rattle.rb_joint.proofs.Identities.{place_fixed-placed, place_turned-placed, place_along-placed, rotation-product}
 
 -- ---- what lies in a table, lies in it by any other form
-vectors_same : {u v : V3 Frac} {w : V3 Interval} → Vectors Same u v → Vectors LiesIn u w → Vectors LiesIn v w
+pub vectors_same : {u v : V3 Frac} {w : V3 Interval} → Vectors Same u v → Vectors LiesIn u w → Vectors LiesIn v w
 vectors_same s h = record { x = lies_in_same _ _ _ s.x h.x; y = lies_in_same _ _ _ s.y h.y; z = lies_in_same _ _ _ s.z h.z }
 
 tables_same : {u v : Table Frac} {w : Table Interval} → Tables Same u v → Tables LiesIn u w → Tables LiesIn v w

@@ -8,13 +8,13 @@ use Rattle.rb_frac.proofs.Hom.{frac_ring}
 use Rattle.rb_num.specs.Arith.{fractions}
 use Rattle.rb_num.proofs.Bridges.{expressions}
 use Rattle.rb_frac.specs.Spatial.{Spatial, BodyInertia, Inertia, Spatials}
-use Rattle.rb_spatial.specs.Motions.{cross3, cross_twice, plus_cross, mul, apply, apply_dual, cross, cross_dual, power, sum_vector}
+use Rattle.rb_spatial.specs.Motions.{cross3, cross_twice, plus_cross, multiple, mul, apply, apply_dual, cross, cross_dual, power, sum_vector}
 use Rattle.rb_spatial.specs.Inertias.{mul_both, table, times, sum_table, sum_symmetric, sum, less_vector, less_table, less_symmetric, less_outer}
 use Rattle.rb_spatial.specs.Carrying.{row_mul, product, upper_product, less_row, less_product, correct, turn_symmetric, turn_table, carry}
 use Rattle.rb_frac.specs.Mechanics.{plus, scaled, opposite, combined, in_body, in_parent, motion_product, force_product, power_of, momentum, parallel_axes, symmetric_sum, symmetric_scaled, combined_bodies, body_of, newton, euler, needed}
 use Rattle.rb_frac.specs.Tables.{table_times, table_sum, table_scaled, outer}
-use Rattle.rb_spatial.specs.Laws.{ApplyIsInBody, ApplyDualIsInParent, CrossIsMotionProduct, CrossDualIsForceProduct, PowerIsSum, TableGivesMomentum, ApplyDuality, CrossDuality, CrossIsAlternating, TimesIsSymmetric, CarryIsCongruence, NewtonEuler, ApplyIsLinear, ApplyDualIsLinear, CrossIsLinear, CrossDualIsLinear, TimesIsLinear, PowerIsLinear, SumIsAdditive, TableIsLinear, NeededIsLinear}
-use Rattle.rb_frac.proofs.Variables.{vector, symmetric, spatial, place, body, inertia, of_vector, of_symmetric, of_spatial, of_place, of_body, of_inertia, at, identity}
+use Rattle.rb_spatial.specs.Laws.{ApplyIsInBody, ApplyDualIsInParent, CrossIsMotionProduct, CrossDualIsForceProduct, MultipleIsScaled, PowerIsSum, TableGivesMomentum, ApplyDuality, CrossDuality, CrossIsAlternating, TimesIsSymmetric, CarryIsCongruence, NewtonEuler, ApplyIsLinear, ApplyDualIsLinear, CrossIsLinear, CrossDualIsLinear, TimesIsLinear, PowerIsLinear, SumIsAdditive, TableIsLinear, NeededIsLinear}
+use Rattle.rb_frac.proofs.Variables.{vector, symmetric, spatial, place, body, inertia, of_vector, of_symmetric, of_spatial, of_place, of_body, of_inertia, at, vectors, identity}
 
 -- ---- formulas
 pub apply-in_body : ApplyIsInBody
@@ -36,6 +36,11 @@ pub cross_dual-force_product : CrossDualIsForceProduct
 unfolding cross_dual cross3 cross_twice dot force_product vadd cross_of_vectors
 cross_dual-force_product a f =
     identity (of_spatial a (of_spatial f [])) (cross_dual expressions (spatial 0) (spatial 6)) (force_product expr (spatial 0) (spatial 6)) (refl, refl, refl) (refl, refl, refl)
+
+pub multiple-scaled : MultipleIsScaled
+unfolding multiple dot vscale
+multiple-scaled k v =
+    vectors (k ∷ of_vector v []) (multiple expressions (var 0) (vector 1)) (vscale expr (var 0) (vector 1)) (refl, refl, refl)
 
 pub power-sum : PowerIsSum
 unfolding power dot power_of dot3

@@ -1,12 +1,12 @@
 -- What the rules mean at fractions: facts about vectors of six. Featherstone, Rigid Body Dynamics Algorithms, chapter 2.
 use Rattle.std.specs.Prelude.{◌≡◌, ℕ, ◌<◌, ◌≤◌}
-use Rattle.rb_frac.specs.Ops.{V3, sum as sum_below}
+use Rattle.rb_frac.specs.Ops.{V3, vscale, sum as sum_below}
 use Rattle.rb_frac.specs.Frac.{Frac, Same, fracs, neg, sub, add, mul}
 use Rattle.rb_num.specs.Interval.{Interval}
 use Rattle.rb_num.specs.Arith.{fractions}
-use Rattle.rb_frac.specs.Tables.{Symmetric}
+use Rattle.rb_frac.specs.Tables.{Symmetric, Vectors}
 use Rattle.rb_frac.specs.Spatial.{Motion, Force, Place, BodyInertia, Inertia, coordinate, entry, Motions, Forces}
-use Rattle.rb_spatial.specs.Motions.{apply, apply_dual, cross, cross_dual, power}
+use Rattle.rb_spatial.specs.Motions.{multiple, apply, apply_dual, cross, cross_dual, power}
 use Rattle.rb_spatial.specs.Inertias.{table, times, sum, less_outer}
 use Rattle.rb_spatial.specs.Carrying.{carry}
 use Rattle.rb_frac.specs.Mechanics.{plus, scaled, opposite, combined, in_body, in_parent, motion_product, force_product, power_of, momentum, combined_bodies, body_of, needed}
@@ -23,6 +23,9 @@ CrossIsMotionProduct = (a b : Motion Frac) → Motions Same (cross fractions a b
 
 abbrev pub CrossDualIsForceProduct : Type 0
 CrossDualIsForceProduct = (a : Motion Frac) (f : Force Frac) → Forces Same (cross_dual fractions a f) (force_product fracs a f)
+
+abbrev pub MultipleIsScaled : Type 0
+MultipleIsScaled = (k : Frac) (v : V3 Frac) → Vectors Same (multiple fractions k v) (vscale fracs k v)
 
 abbrev pub PowerIsSum : Type 0
 PowerIsSum = (m : Motion Frac) (f : Force Frac) → Same (power fractions m f) (power_of fracs m f)

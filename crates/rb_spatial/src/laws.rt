@@ -1,6 +1,6 @@
 //! What the rules mean at fractions.
 
-ghost use Rattle.rb_spatial.specs.Laws.{ApplyIsInBody, ApplyDualIsInParent, CrossIsMotionProduct, CrossDualIsForceProduct, PowerIsSum, TableGivesMomentum};
+ghost use Rattle.rb_spatial.specs.Laws.{ApplyIsInBody, ApplyDualIsInParent, CrossIsMotionProduct, CrossDualIsForceProduct, MultipleIsScaled, PowerIsSum, TableGivesMomentum};
 ghost use Rattle.rb_spatial.specs.Laws.{ApplyDuality, CrossDuality, CrossIsAlternating, TimesIsSymmetric};
 ghost use Rattle.rb_spatial.specs.Laws.{CarryIsCongruence, NewtonEuler, LessOuterTimes, SumIsAdditive};
 ghost use Rattle.rb_spatial.specs.Laws.{EntryIsSymmetric, TimesIsRows, LessOuterEntry};
@@ -12,6 +12,7 @@ pub fn formulas()
     ensures apply_dual { ApplyDualIsInParent }
     ensures cross { CrossIsMotionProduct }
     ensures cross_dual { CrossDualIsForceProduct }
+    ensures multiple { MultipleIsScaled }
     ensures power { PowerIsSum }
     ensures table { TableGivesMomentum }
 {}

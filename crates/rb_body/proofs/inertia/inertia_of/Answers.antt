@@ -1,6 +1,6 @@
 use Rattle.std.proofs.Common.{rules}
 use Rattle.rb_body.specs.Raw.{link_brackets}
-use Rattle.rb_body.specs.Constants.{inertia_by}
+use Rattle.rb_body.specs.Inertia.{inertia_by}
 use Rattle.rb_body.proofs.Links.{inertia_answer}
 use Rattle.rb_body.proofs.Refusals.{link_range}
 use Rattle.rb_body.proofs.inertia.inertia_of.Goals as goal

@@ -1,5 +1,5 @@
 use Rattle.std.proofs.Common.{rules}
-use Rattle.rb_body.specs.Constants.{joint_by}
+use Rattle.rb_body.specs.Joint.{joint_by}
 use Rattle.rb_body.proofs.Models.{joint_encloses, joint_answer, fixed_numbers}
 use Rattle.rb_body.proofs.Refusals.{joint_range, joint_zero}
 use Rattle.rb_body.proofs.joint.joint_of.Goals as goal

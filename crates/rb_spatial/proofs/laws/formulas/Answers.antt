@@ -1,4 +1,4 @@
-use Rattle.rb_spatial.proofs.Identities.{apply-in_body, apply_dual-in_parent, cross-motion_product, cross_dual-force_product, power-sum, table-momentum}
+use Rattle.rb_spatial.proofs.Identities.{apply-in_body, apply_dual-in_parent, cross-motion_product, cross_dual-force_product, multiple-scaled, power-sum, table-momentum}
 use Rattle.rb_spatial.proofs.laws.formulas.Goals as goal
 
 pub returns-clause-apply : goal.returns-clause-apply
@@ -12,6 +12,9 @@ returns-clause-cross c = cross-motion_product
 
 pub returns-clause-cross_dual : goal.returns-clause-cross_dual
 returns-clause-cross_dual c = cross_dual-force_product
+
+pub returns-clause-multiple : goal.returns-clause-multiple
+returns-clause-multiple c = multiple-scaled
 
 pub returns-clause-power : goal.returns-clause-power
 returns-clause-power c = power-sum

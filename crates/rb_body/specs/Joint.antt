@@ -1,40 +1,36 @@
--- The constants of a body: the inertia of its link and the model of its joint, or the first refusal.
-use Rattle.std.specs.Prelude.{◌≡◌, Result, Ok, Err, IsOk, List, [], ◌∷◌}
+-- The model that a joint's brackets give, or the first refusal. URDF `joint`; Featherstone, Rigid Body Dynamics Algorithms, chapter 4.
+use Rattle.std.specs.Prelude.{◌≡◌, ℕ, Result, Ok, Err, IsOk, List}
+use Rattle.std.specs.List.{AllZip}
 use Rattle.rb_frac.specs.Ops.{V3}
+use Rattle.rb_frac.specs.Spatial.{Frame, Place, Places, Motions}
 use Rattle.rb_num.specs.Interval.{Interval}
+use Rattle.rb_num.specs.Fraction.{LiesIn}
 use Rattle.rb_num.specs.Arith.{intervals}
 use Rattle.rb_num.specs.Quotient.{HasZero}
-use Rattle.rb_frac.specs.Spatial.{Frame, BodyInertia}
+use Rattle.rb_result.specs.Steps.{◌>>=◌, told_as}
 use Rattle.rb_spatial.specs.Vectors.{none, vector_of}
+use Rattle.rb_spatial.specs.Motions.{multiple}
 use Rattle.rb_trig.specs.Axis.{AxisFits, MakesUnit, squared_length, unit_scale_of}
-use Rattle.rb_flat.specs.Choice.{LinkBrackets}
+use Rattle.rb_flat.specs.Joint.{JointChoice, chosen_place, chosen_column}
+use Rattle.rb_flat.specs.Choice.{JointChosen}
 use Rattle.rb_joint.specs.declared.any.AnyJoint.{AnyJoint}
 use Rattle.rb_joint.specs.declared.any.AnyJoint.TheVariants as Variant
-use Rattle.rb_joint.specs.Models.{frame_by, axial_by}
-use Rattle.rb_body.specs.declared.faults.BodyFault.{BodyFault}
-use Rattle.rb_body.specs.declared.faults.BodyFault.TheVariants.{Size}
+use Rattle.rb_joint.specs.Frames.{frame_by}
+use Rattle.rb_joint.specs.Models.{axial_by}
+use Rattle.rb_joint.specs.Any as Model
 use Rattle.rb_urdf.specs.declared.robot.UrdfKind.{UrdfKind}
 use Rattle.rb_urdf.specs.declared.robot.UrdfKind.TheVariants.{Fixed, Revolute, Prismatic}
+use Rattle.rb_urdf.specs.Numbers.{zeros}
+use Rattle.rb_body.specs.declared.faults.BodyFault.{BodyFault}
+use Rattle.rb_body.specs.declared.faults.BodyFault.TheVariants.{Size}
 use Rattle.rb_body.specs.declared.raw.JointRaw.{JointRaw}
-use Rattle.rb_body.specs.Tables.{symmetric}
-use Rattle.rb_body.specs.Faults.{of_frame, of_axis, of_number, step}
-use Rattle.rb_result.specs.Steps.{◌>>=◌}
-use Rattle.rb_body.specs.Raw.{HasAxis}
-use Rattle.rb_body.specs.Rules.{scaled, body}
+use Rattle.rb_body.specs.Faults.{of_frame, of_axis, of_number}
+use Rattle.rb_body.specs.Raw.{kind_of, HasAxis, joint_brackets}
 
--- ---- links
-unfoldable pub inertia_by : LinkBrackets → Result (BodyInertia Interval) BodyFault
-inertia_by l =
-    next (step of_frame (frame_by l.centre l.rpy)) (λ f. step of_number (body intervals f.rot l.mass l.centre (symmetric l.six)))
-
--- ---- joints
 -- the factor of the axis, and the axis taken times it
 unfoldable pub axis_by : V3 Interval → Result (Interval × V3 Interval) BodyFault
 axis_by v =
-    next (step of_axis (unit_scale_of v.x v.y v.z)) (λ k. next (step of_number (scaled intervals k v)) (λ a. Ok (k, a)))
-
-abbrev pub no_axis : List Interval
-no_axis = none ∷ none ∷ none ∷ []
+    told_as of_axis (unit_scale_of v.x v.y v.z) >>= λ k. told_as of_number (multiple intervals k v) >>= λ a. Ok (k, a)
 
 -- a model, and the numbers that it is made of
 abbrev pub Answer : Type 0
@@ -44,16 +40,17 @@ abbrev pub raw : UrdfKind → List Interval → List Interval → List Interval 
 raw kind xyz rpy axis k = record { kind = kind; xyz = xyz; rpy = rpy; axis = axis; factor = k }
 
 unfoldable pub fixed_by : Frame Interval → List Interval → List Interval → AnyJoint × JointRaw
-fixed_by f xyz rpy = (Variant.Fixed (record { frame = f }), raw Fixed xyz rpy no_axis none)
+fixed_by f xyz rpy = (Variant.Fixed (record { frame = f }), raw Fixed xyz rpy zeros none)
 
 unfoldable pub revolute_by : Frame Interval → List Interval → List Interval → List Interval → Answer
 revolute_by f xyz rpy axis =
-    next (axis_by (vector_of axis)) (λ a.
-    next (step of_number (axial_by f a.1)) (λ m. Ok (Variant.Revolute m, raw Revolute xyz rpy axis a.0)))
+    axis_by (vector_of axis) >>= λ a.
+    told_as of_number (axial_by f a.1) >>= λ m.
+    Ok (Variant.Revolute m, raw Revolute xyz rpy axis a.0)
 
 unfoldable pub prismatic_by : Frame Interval → List Interval → List Interval → List Interval → Answer
 prismatic_by f xyz rpy axis =
-    next (axis_by (vector_of axis)) (λ a. Ok (Variant.Prismatic (record { frame = f; axis = a.1 }), raw Prismatic xyz rpy axis a.0))
+    axis_by (vector_of axis) >>= λ a. Ok (Variant.Prismatic (record { frame = f; axis = a.1 }), raw Prismatic xyz rpy axis a.0)
 
 -- in the frame; a kind without a model is asked for by no call
 abbrev pub joint_in : UrdfKind → Frame Interval → List Interval → List Interval → List Interval → Answer
@@ -64,7 +61,7 @@ joint_in _ f xyz rpy axis = Err Size
 
 unfoldable pub joint_by : UrdfKind → List Interval → List Interval → List Interval → Answer
 joint_by kind xyz rpy axis =
-    next (step of_frame (frame_by (vector_of xyz) (vector_of rpy))) (λ f. joint_in kind f xyz rpy axis)
+    told_as of_frame (frame_by (vector_of xyz) (vector_of rpy)) >>= λ f. joint_in kind f xyz rpy axis
 
 -- the frame is not refused, and the joint needs an axis, which may be zero
 pub record IsZeroAxis (kind : UrdfKind) (xyz rpy axis : V3 Interval) : Type 0 where
@@ -81,4 +78,12 @@ pub record HasNumbers (k : UrdfKind) (xyz rpy a : List Interval) (j : JointRaw) 
   pub angles : j.rpy ≡ rpy
   pub axis : HasAxis k → j.axis ≡ a
   pub unit : HasAxis k → MakesUnit (vector_of a).x (vector_of a).y (vector_of a).z j.factor
-  pub zero : ¬ HasAxis k → (j.axis ≡ no_axis) × (j.factor ≡ none)
+  pub zero : ¬ HasAxis k → (j.axis ≡ zeros) × (j.factor ≡ none)
+
+-- the model is of the kind of the joint, and has the frame and the axis of each choice of the joint: so its place and its columns enclose
+-- those of the joint relation
+pub record EnclosesJoint (m : AnyJoint) (j : JointRaw) : Type 0 where
+  pub kind : Model.kind_of m ≡ kind_of j.kind
+  pub choice : (c : JointChoice) → JointChosen (kind_of j.kind) c (joint_brackets j) → Model.HasChoice m c
+  pub place : (c : JointChoice) (q : List Interval) (p : Place Interval) → JointChosen (kind_of j.kind) c (joint_brackets j) → AllZip LiesIn c.entries q → Model.any_place m q ≡ Ok p → Places LiesIn (chosen_place (kind_of j.kind) c) p
+  pub column : (c : JointChoice) (k : ℕ) → JointChosen (kind_of j.kind) c (joint_brackets j) → Motions LiesIn (chosen_column (kind_of j.kind) c k) (Model.any_column m k)
