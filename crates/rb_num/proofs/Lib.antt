@@ -16,3 +16,4 @@ pub mod Sine
 pub mod Same
 pub mod Examples
 pub mod Series
+pub mod Zeros

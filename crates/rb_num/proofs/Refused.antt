@@ -8,6 +8,7 @@ use Rattle.rb_num.specs.declared.interval.NumFault.TheVariants.{Size, Zero}
 use Rattle.rb_num.specs.Interval.{Interval, IsWithin, EndsFit, sum_of, difference_of}
 use Rattle.rb_num.specs.Quotient.{HasZero, QuotientFits, IsQuotientFault, quotient_of}
 use Rattle.rb_num.specs.Refusing.{ends_fit, has_zero, quotient_fits, iv_add, iv_sub, iv_div}
+use Rattle.rb_num.specs.Hull.{Meet, do_meet}
 use Rattle.rb_num.specs.Dot.{is_within, products_fit, all_fit, iv_dot, dot_of, ProductsFit, DotFits}
 
 yes : (b : Bool) → b ≡ true → T b
@@ -66,6 +67,10 @@ decides_ends v = Decides-like _ (λ p. record { low = p.0; high = p.1 }) (λ w. 
 
 pub decides_zero : (v : Interval) → Decides (has_zero v) (HasZero v)
 decides_zero v = Decides-like _ (λ p. record { low = p.0; high = p.1 }) (λ w. (w.low, w.high)) (Decides-and _ _ (decides_le _ _) (decides_le _ _))
+
+pub decides_meet : (a b : Interval) → Decides (do_meet a b) (Meet a b)
+unfolding do_meet
+decides_meet a b = Decides-like _ (λ p. record { left = p.0; right = p.1 }) (λ w. (w.left, w.right)) (Decides-and _ _ (decides_le _ _) (decides_le _ _))
 
 pub added : (r : Result Interval NumFault) (a b : Interval) → OkIff r (EndsFit (sum_of a b)) (sum_of a b) → IfErr r (λ e. e ≡ Size) → r ≡ iv_add a b
 unfolding iv_add

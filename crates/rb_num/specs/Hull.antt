@@ -1,6 +1,7 @@
 -- The hull of two intervals, which is the least that has both in it, and their meet, the common part.
-use Rattle.std.specs.Prelude.{◌≤ℤ◌}
+use Rattle.std.specs.Prelude.{◌≤ℤ◌, Bool, ◌&&◌}
 use Rattle.std.specs.Int.{int_min, int_max}
+use Rattle.std.specs.Int.Signed.{le_z}
 use Rattle.rb_num.specs.Interval.{Interval, interval}
 
 unfoldable pub hull_of : Interval → Interval → Interval
@@ -13,3 +14,7 @@ meet_of a b = interval (int_max a.lo b.lo) (int_min a.hi b.hi)
 pub record Meet (a b : Interval) : Type 0 where
   pub left : a.lo ≤ℤ b.hi
   pub right : b.lo ≤ℤ a.hi
+
+-- whether `Meet a b`
+unfoldable pub do_meet : Interval → Interval → Bool
+do_meet a b = le_z a.lo b.hi && le_z b.lo a.hi

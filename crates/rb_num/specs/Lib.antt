@@ -7,3 +7,4 @@ pub mod Refusing
 pub mod Arith
 pub mod Least
 pub mod Sine
+pub mod Laws

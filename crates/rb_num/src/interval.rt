@@ -5,7 +5,7 @@ ghost use Rattle.rb_num.specs.Refusing.{iv_add, iv_sub, iv_div};
 ghost use Rattle.rb_num.specs.Fraction.{EnclosesNegative, EnclosesSum, EnclosesDifference, EnclosesDot, EnclosesHull, EnclosesMeet, IsWithinBoth, EnclosesQuotient};
 ghost use Rattle.rb_num.specs.Dot.{ProductsFit, DotFits, least_product, greatest_product, dot_of, iv_dot};
 ghost use Rattle.rb_num.specs.Least.{IsLeast, HasSums, HasQuotients, HasBoth};
-ghost use Rattle.rb_num.specs.Hull.{hull_of, meet_of, Meet};
+ghost use Rattle.rb_num.specs.Hull.{hull_of, meet_of, Meet, do_meet};
 ghost use Rattle.rb_num.specs.Quotient.{HasZero, floor_quotient as floor_quotient_of, ceil_quotient as ceil_quotient_of, quotient_of, quotients_of, QuotientFits, IsQuotientFault};
 
 use std::marker::Model;
@@ -241,13 +241,22 @@ impl Iv {
         }
     }
 
+    /// Whether some fraction lies in both.
+    #[tactic(auto, using(crate::proofs::Refused::decides_meet), unfolding(crate::specs::Hull::do_meet))]
+    pub fn meets(self, other: Iv) -> bool
+        ensures value { result ≡ do_meet self other }
+        ensures meet { IsTrue result ↔ Meet self other }
+    {
+        self.lo <= other.hi && other.lo <= self.hi
+    }
+
     /// The common part: `None` exactly where no fraction lies in both.
     pub fn meet(self, other: Iv) -> Option<Iv>
         ensures exact { SomeIff result (Meet self other) (meet_of self other) }
         ensures within { IfSome result (IsWithinBoth self other) }
         ensures encloses { EnclosesMeet self other result }
     {
-        if self.lo <= other.hi && other.lo <= self.hi {
+        if self.meets(other) {
             Some(Iv {
                 lo: self.lo.max(other.lo),
                 hi: self.hi.min(other.hi),

@@ -1,4 +1,5 @@
 ghost use Rattle.rb_num.specs.Fraction.{LiesInKeepsSame};
+ghost use Rattle.rb_num.specs.Laws.{DoMeetDecides, DotLeavesOutZero, ZeroIsNeutral};
 ghost use Rattle.rb_num.specs.Sine.{HasPair, IsCut};
 
 /// A fraction lies in an interval where another of the same number does.
@@ -14,4 +15,19 @@ pub fn cut_law()
 /// Every angle has a pair of fractions that goes with it as its sine and its cosine.
 pub fn sine_law()
     ensures { HasPair }
+{}
+
+/// A pair with zero in it may be left out of the pairs of `dot`, also where `dot` is refused.
+pub fn dot_without_zero_law()
+    ensures { DotLeavesOutZero }
+{}
+
+/// Zero, added to an interval or taken away from it, changes nothing and is never refused.
+pub fn zero_law()
+    ensures { ZeroIsNeutral }
+{}
+
+/// Whether two intervals meet is a test of their ends.
+pub fn meet_law()
+    ensures { DoMeetDecides }
 {}

@@ -10,4 +10,4 @@ mod interval;
 mod laws;
 
 pub use interval::{B, Iv, NumFault, S, dot};
-pub use laws::{cut_law, lies_in_law, sine_law};
+pub use laws::{cut_law, dot_without_zero_law, lies_in_law, meet_law, sine_law, zero_law};

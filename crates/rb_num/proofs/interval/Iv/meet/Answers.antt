@@ -1,32 +1,32 @@
-use Rattle.std.proofs.Common.{arith}
-use Rattle.std.proofs.lemmas.Grind.{common_steps}
-use Rattle.std.proofs.lemmas.Int.{ints}
-use Rattle.rb_num.specs.Hull.{Meet}
-use Rattle.rb_num.proofs.Ends.{ends_are}
+use Rattle.std.proofs.Common.{rules}
+use Rattle.rb_num.specs.Hull.{Meet, meet_of}
+use Rattle.std.proofs.Common.{to_z, of_z}
+use mir.Syntax.{w128}
+use Rattle.rb_num.proofs.Ends.{Made, ends_are}
 use Rattle.rb_num.proofs.Hull.{meet_made, meet_encloses, meet_none, within_both}
 use Rattle.rb_num.proofs.interval.Iv.meet.Goals as goal
-use Rattle.rb_num.proofs.interval.Iv.meet.Goals.{After-min, else-self-other-via-then-self-other+else-other-self, else-self-other-via-else-self-other}
+use Rattle.rb_num.proofs.interval.Iv.meet.Goals.{After-min}
 
 meet : (c : After-min) → Meet c.args.self c.args.other
-meet c =
-    let a = ends_are c.self.invariant c.self.view_is in
-    let b = ends_are c.other.invariant c.other.view_is in
-    record { left = omega (arith, ints, a.lo, b.hi, c.if-self-other.true); right = omega (arith, ints, a.hi, b.lo, c.if-other-self.true) }
+meet c = search (rules, c.if-meets.ensures)
+
+the_ends : (c : After-min) → Made (meet_of c.args.self c.args.other) (to_z w128 (of_z w128 c.max.result)) (to_z w128 (of_z w128 c.min.result))
+the_ends c =
+    meet_made (ends_are c.self.invariant c.self.view_is) (ends_are c.other.invariant c.other.view_is) (meet c) c.max.ensures.value c.min.ensures.value
 
 pub invariant_of-result : goal.invariant_of-result
-invariant_of-result c = (meet_made (ends_are c.self.invariant c.self.view_is) (ends_are c.other.invariant c.other.view_is) (meet c) c.max.ensures.value c.min.ensures.value).invariant
+invariant_of-result c = (the_ends c).invariant
 
-pub returns-then-other-self-clause-exact : goal.returns-then-other-self-clause-exact
-returns-then-other-self-clause-exact c =
-    (meet c, (meet_made (ends_are c.self.invariant c.self.view_is) (ends_are c.other.invariant c.other.view_is) (meet c) c.max.ensures.value c.min.ensures.value).value)
+pub returns-then-meets-clause-exact : goal.returns-then-meets-clause-exact
+returns-then-meets-clause-exact c = (meet c, (the_ends c).value)
 
-pub returns-then-other-self-clause-encloses : goal.returns-then-other-self-clause-encloses
-returns-then-other-self-clause-encloses c = meet_encloses _ _ _ (meet_made (ends_are c.self.invariant c.self.view_is) (ends_are c.other.invariant c.other.view_is) (meet c) c.max.ensures.value c.min.ensures.value).value
+pub returns-then-meets-clause-within : goal.returns-then-meets-clause-within
+returns-then-meets-clause-within c = within_both _ _ _ (the_ends c).value
 
-pub returns-else-self-other-clause-encloses : goal.returns-else-self-other-clause-encloses
-returns-else-self-other-clause-encloses c =
-    let n : Meet c.args.self c.args.other → ⊥ = grind (arith, common_steps) in
+pub returns-then-meets-clause-encloses : goal.returns-then-meets-clause-encloses
+returns-then-meets-clause-encloses c = meet_encloses _ _ _ (the_ends c).value
+
+pub returns-else-meets-clause-encloses : goal.returns-else-meets-clause-encloses
+returns-else-meets-clause-encloses c =
+    let n : Meet c.args.self c.args.other → ⊥ = search (rules, c.if-meets.ensures) in
     meet_none _ _ n
-
-pub returns-then-other-self-clause-within : goal.returns-then-other-self-clause-within
-returns-then-other-self-clause-within c = within_both _ _ _ (meet_made (ends_are c.self.invariant c.self.view_is) (ends_are c.other.invariant c.other.view_is) (meet c) c.max.ensures.value c.min.ensures.value).value
