@@ -317,6 +317,23 @@ impl Iv {
 mod tests {
     use super::*;
 
+    fn is_shared<T: Send + Sync>() {}
+
+    #[test]
+    fn types_are_shared(_rt: HostRuntime) {
+        is_shared::<Iv>();
+        is_shared::<NumFault>();
+    }
+
+    #[test]
+    fn common_parts(rt: HostRuntime) {
+        let low = Iv::new(-5, 2);
+        assert!(rt; low.meets(Iv::new(2, 7)));
+        assert_eq!(rt; low.meet(Iv::new(1, 7)), Some(Iv::new(1, 2)));
+        assert!(rt; !low.meets(Iv::new(3, 7)));
+        assert_eq!(rt; low.meet(Iv::new(3, 7)), None);
+    }
+
     // The expected ends were worked out elsewhere, with exact fractions.
     #[test]
     fn vectors(rt: HostRuntime) {
