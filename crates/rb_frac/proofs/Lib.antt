@@ -4,16 +4,12 @@ pub mod Whole
 pub mod Reduce
 pub mod Rational
 pub mod Order
-pub mod NewtonEuler
-pub mod Blocks
 pub mod Combine
 pub mod Sums
 pub mod Eliminate
 pub mod Quote
 pub mod Transfer
-pub mod Definite
 pub mod Interval
 pub mod Hom
-pub mod Matrix
 pub mod Laws
 pub mod Variables

@@ -11,7 +11,7 @@ use Rattle.rb_frac.specs.Positive.{suc_pos}
 use lib.IntN.{ℤ, pos, negsuc, ◌+ℤ◌, ◌-ℤ◌, ◌*ℤ◌, neg_ℤ, ℤ_set, ℤ_discrete, zero-*ℤ}
 use Rattle.rb_frac.proofs.Ring.{Ops, CommRing, Expr, var, enul, eone, plus, times, minus, ring}
 use Rattle.rb_frac.proofs.Vec.{nth}
-use Rattle.rb_frac.proofs.Whole.{whole as whole_ring, cancel, neg-mul, NonNeg, NonNeg-prop, NonNeg-add, NonNeg-mul, NonNeg_total, null_from_NonNeg, NonNeg_cancel, le-diff, diff-le}
+use Rattle.rb_frac.proofs.Whole.{whole as whole_ring, cancel, neg-mul, NonNeg, NonNeg-add, NonNeg-mul, NonNeg_total, null_from_NonNeg, NonNeg_cancel, le-diff, diff-le}
 use Rattle.rb_frac.proofs.Reduce.{norm, norm-same, norm_equal, norm-norm, same_trans}
 use Rattle.rb_frac.specs.Frac as F
 use Rattle.rb_frac.specs.Frac.{Frac, Same, Le, turn, quot}
@@ -25,9 +25,6 @@ Frac_set = hlevel (ℤ_set, ℕ_set, le_prop)
 
 pub rat_path : (p q : ℚ) → p.rep ≡ q.rep → p ≡ q
 rat_path p q e = λ i. record { rep = e i; reduced = is_prop→PathP (λ j. norm (e j) ≡ e j) (λ j. Frac_set (norm (e j)) (e j)) p.reduced q.reduced i }
-
-pub ℚ_set : IsSet ℚ
-ℚ_set = hlevel (Frac_set)
 
 -- ---- the class of a fraction
 pub cls : Frac → ℚ
@@ -271,10 +268,6 @@ cls_of_quot x y = go (ℤ_discrete y.num (pos 0))
 -- ---- the order
 pub IsNonNeg : ℚ → Type 0
 IsNonNeg q = NonNeg q.rep.num
-
-pub IsNonNeg-prop : (q : ℚ) → IsProp (IsNonNeg q)
-unfolding IsNonNeg
-IsNonNeg-prop q = NonNeg-prop q.rep.num
 
 nn_same : (x y : Frac) → Same x y → NonNeg x.num → NonNeg y.num
 nn_same x y h k = NonNeg_cancel y.num x.den x.some (subst NonNeg h (NonNeg-mul x.num (pos y.den) k tt))

@@ -76,10 +76,6 @@ abbrev pub NonNeg : ℤ → Type 0
 NonNeg (pos n) = Unit {0}
 NonNeg (negsuc n) = ⊥
 
-pub NonNeg-prop : (z : ℤ) → IsProp (NonNeg z)
-NonNeg-prop (pos n) x y = refl
-NonNeg-prop (negsuc n) x y = absurd x
-
 pub NonNeg-add : (a b : ℤ) → NonNeg a → NonNeg b → NonNeg (a +ℤ b)
 NonNeg-add (pos m) (pos n) h k = tt
 NonNeg-add (pos m) (negsuc n) h k = absurd k

@@ -39,10 +39,6 @@ turn (negsuc m) e = record { num = neg_ℤ (pos e); den = suc m; some = suc_pos 
 unfoldable pub quot : Frac → Frac → Frac
 quot x y = mul x (turn y.num y.den)
 
--- lies between lo and hi, which count units of 1/scale
-abbrev pub LiesIn : ℤ → ℤ → ℕ → Frac → Type 0
-LiesIn lo hi scale x = ((lo *ℤ pos x.den) ≤ℤ (x.num *ℤ pos scale)) × ((x.num *ℤ pos scale) ≤ℤ (hi *ℤ pos x.den))
-
 -- the operations, for the definitions of Ops
 abbrev pub fracs : Ops Frac
 fracs = record { add = add; mul = mul; neg = neg; nul = whole (pos 0); one = whole (pos 1) }

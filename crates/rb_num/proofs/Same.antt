@@ -1,16 +1,24 @@
 -- That a fraction lies in an interval is a fact about its number.
-use Rattle.std.proofs.Common.{◌<◌, subst, arith}
-use Rattle.rb_frac.proofs.Rational.{ℚ, ◌≤ℚ◌, sound}
-use Rattle.rb_frac.proofs.Interval.{units, lies_in}
-use Rattle.rb_num.specs.Interval.{grid}
-use Rattle.rb_num.specs.Fraction.{LiesInKeepsSame}
+use Rattle.std.proofs.Common.{◌↔◌}
+use Rattle.rb_frac.specs.Frac.{Frac}
+use Rattle.rb_frac.proofs.Reduce.{same_refl}
+use Rattle.rb_frac.proofs.Laws.{le_same}
+use Rattle.rb_frac.proofs.Rational.{◌≤ℚ◌, cls, cls-le}
+use Rattle.rb_num.specs.Interval.{Interval}
+use Rattle.rb_num.specs.Fraction.{LiesIn, LiesInKeepsSame}
+use Rattle.rb_num.specs.Least.{units}
 
-grid_positive : 0 < grid
-grid_positive = omega arith
+-- the two orders of numbers
+pub lies_in : (x : Frac) (v : Interval) → LiesIn x v ↔ ((cls (units v.lo) ≤ℚ cls x) × (cls x ≤ℚ cls (units v.hi)))
+unfolding units
+lies_in x v = (
+  λ h. ((cls-le (units v.lo) x).0 h.above, (cls-le x (units v.hi)).0 h.below),
+  λ k. record { above = (cls-le (units v.lo) x).1 k.0; below = (cls-le x (units v.hi)).1 k.1 },
+)
 
 pub lies_in_same : LiesInKeepsSame
-lies_in_same x y v s h =
-    let a = (lies_in v.lo v.hi grid grid_positive x).0 (h.above, h.below) in
-    let b = subst (λ (q : ℚ). (units v.lo grid grid_positive ≤ℚ q) × (q ≤ℚ units v.hi grid grid_positive)) (sound x y s) a in
-    let c = (lies_in v.lo v.hi grid grid_positive y).1 b in
-    record { above = c.0; below = c.1 }
+unfolding units
+lies_in_same x y v s h = record {
+  above = le_same (units v.lo) (units v.lo) x y (same_refl (units v.lo)) s h.above;
+  below = le_same x y (units v.hi) (units v.hi) s (same_refl (units v.hi)) h.below;
+}

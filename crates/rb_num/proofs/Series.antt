@@ -33,10 +33,10 @@ module _ {A : Type 0} (R : CommRing A) where
       ∙ ring R (nth nul (a 0 ∷ r 0 ∷ nest (λ k. r (suc k)) n ∷ [])) (plus (var 0) (times (times (var 0) (var 1)) (var 2))) (times (var 0) (plus eone (times (var 1) (var 2)))) refl
 
 -- ---- whole numbers and powers
-pub natural : ℕ → ℚ
+unfoldable pub natural : ℕ → ℚ
 natural n = cls (F.whole (pos n))
 
-natural-mul : (m n : ℕ) → natural (m * n) ≡ natural m *ℚ natural n
+pub natural-mul : (m n : ℕ) → natural (m * n) ≡ natural m *ℚ natural n
 unfolding natural F.whole F.mul
 natural-mul m n = sound (F.whole (pos (m * n))) (F.mul (F.whole (pos m)) (F.whole (pos n))) refl ∙ sym (cls-mul (F.whole (pos m)) (F.whole (pos n)))
 
@@ -84,7 +84,7 @@ pub term : ℚ → ℕ → ℕ → ℚ
 term q k n = (power_ℚ (neg_ℚ 1ℚ) k *ℚ power_ℚ q n) *ℚ inv (natural (factorial n))
 
 -- - q² / ((n + 1) (n + 2))
-pub factor : ℚ → ℕ → ℚ
+unfoldable pub factor : ℚ → ℕ → ℚ
 factor q n = neg_ℚ (q *ℚ q) *ℚ inv (natural (suc n) *ℚ natural (suc (suc n)))
 
 natural-factorial : (n : ℕ) → natural (factorial (suc (suc n))) ≡ natural (suc (suc n)) *ℚ (natural (suc n) *ℚ natural (factorial n))
@@ -103,7 +103,7 @@ term_next q k n =
     both e = natural_differs (suc n * suc (suc n)) (times_pos (suc n) (suc (suc n)) (suc_pos n) (suc_pos (suc n))) (natural-mul (suc n) (suc (suc n)) ∙ e)
 
 -- ---- the sums
-cls-minus_one : cls minus_one ≡ neg_ℚ 1ℚ
+pub cls-minus_one : cls minus_one ≡ neg_ℚ 1ℚ
 unfolding F.whole F.neg
 cls-minus_one = sym (cls-neg (F.whole (pos 1))) ∙ ap neg_ℚ cls-one
 

@@ -16,6 +16,7 @@ use Rattle.rb_num.specs.Hull.{hull_of}
 use Rattle.rb_num.specs.Sine.{minus_one, lesser, greater, is_le, cut, sine_sum, cosine_sum, terms, IsBetween}
 use Rattle.rb_num.proofs.Hull.{hull_encloses}
 use Rattle.rb_num.proofs.Same.{lies_in_same}
+use Rattle.rb_num.proofs.Series.{nest, factor, cls-minus_one}
 use Rattle.rb_num.proofs.Sine.{is_cut}
 use Rattle.rb_trig.specs.declared.sine.Series.{Series}
 use Rattle.rb_trig.specs.declared.sine.Series.TheVariants.{Sine, Cosine}
@@ -24,7 +25,7 @@ use Rattle.rb_trig.specs.Sine.{scale, square_of, divisor, step, nested, sines, c
 use Rattle.rb_trig.proofs.Numbers.{whole, whole-mul, whole-neg, whole_pos, nonneg_whole, Holds, from_lies, to_lies}
 use Rattle.rb_trig.proofs.Steps.{products_hold, outward_holds, squares_hold, difference_holds, clamped_holds, clamped_top, clamped_bottom}
 use Rattle.rb_trig.proofs.Sizes.{some_divisor}
-use Rattle.rb_trig.proofs.Series.{nest, over, cls-minus, cosine_sum_is, sine_sum_is}
+use Rattle.rb_trig.proofs.Series.{over, cosine_factor, sine_factor, cosine_sum_is, sine_sum_is}
 
 -- ---- nested products
 -- one step, where e is one by the divisor
@@ -54,12 +55,27 @@ step_holds u h d a q p i j =
     subst (λ (r : ℚ). Holds (step u h (pos d)) r) (rest_equal ((a *ℚ inv (whole (pos d))) *ℚ q) (whole (pos scale)))
     (difference_holds (pos scale) (outward (products u h) (pos (scale * d))) _ (step_at u h scale d a q (omega arith) p (some_scaled d p) i j))
 
-pub nested_holds : (s : Series) (u : Interval) (a : ℚ) (m k : ℕ) → 1 ≤ k → Holds u (a *ℚ whole (pos scale)) → Holds (nested s u k m) (nest a (over s) k m *ℚ whole (pos scale))
+-- a step, where r is less the square over the divisor
+step_rewritten : (a e r q t : ℚ) → r ≡ neg_ℚ (a *ℚ e) → (1ℚ +ℚ neg_ℚ ((a *ℚ e) *ℚ q)) *ℚ t ≡ (1ℚ +ℚ r *ℚ q) *ℚ t
+step_rewritten a e r q t h = combine rats (nth 0ℚ (a ∷ e ∷ r ∷ q ∷ t ∷ [])) (times (plus eone (minus (times (times (var 0) (var 1)) (var 3)))) (var 4)) (times (plus eone (times (var 2) (var 3))) (var 4))
+    (record { by = minus (times (var 3) (var 4)); left = var 2; right = minus (times (var 0) (var 1)) } ∷ []) refl (h, tt)
+
+pub nested_holds : (s : Series) (u : Interval) (a : ℚ) (r : ℕ → ℚ) (m k : ℕ) → ((i : ℕ) → r i ≡ neg_ℚ (a *ℚ over s (k + i))) → 1 ≤ k → Holds u (a *ℚ whole (pos scale)) → Holds (nested s u k m) (nest rats r m *ℚ whole (pos scale))
 unfolding nested nest over
-nested_holds s u a zero k p h =
-    subst (λ (r : ℚ). Holds (interval (pos scale) (pos scale)) r) (ring rats (nth 0ℚ (whole (pos scale) ∷ [])) (var 0) (times eone (var 0)) refl)
+nested_holds s u a r zero k e p h =
+    subst (λ (q : ℚ). Holds (interval (pos scale) (pos scale)) q) (ring rats (nth 0ℚ (whole (pos scale) ∷ [])) (var 0) (times eone (var 0)) refl)
     record { low = le_refl_ℚ _; high = le_refl_ℚ _ }
-nested_holds s u a (suc m) k p h = step_holds u (nested s u (suc k) m) (divisor s k) a (nest a (over s) (suc k) m) (some_divisor s k p) h (nested_holds s u a m (suc k) (omega arith) h)
+nested_holds s u a r (suc m) k e p h =
+    subst (λ (q : ℚ). Holds (step u (nested s u (suc k) m) (pos (divisor s k))) q)
+    (step_rewritten a (over s k) (r 0) (nest rats (λ i. r (suc i)) m) (whole (pos scale)) (e 0 ∙ ap (λ (j : ℕ). neg_ℚ (a *ℚ over s j)) (first k)))
+    (step_holds u (nested s u (suc k) m) (divisor s k) a (nest rats (λ i. r (suc i)) m) (some_divisor s k p) h
+    (nested_holds s u a (λ i. r (suc i)) m (suc k) (λ i. e (suc i) ∙ ap (λ (j : ℕ). neg_ℚ (a *ℚ over s j)) (later k i)) (omega arith) h))
+  where
+    first : (k : ℕ) → k + 0 ≡ k
+    first k = omega arith
+
+    later : (k i : ℕ) → k + suc i ≡ suc k + i
+    later k i = omega arith
 
 -- ---- the square of an angle
 square_equal : (x g f t : ℚ) → f *ℚ t ≡ g *ℚ g → (x *ℚ g) *ℚ (x *ℚ g) ≡ ((x *ℚ x) *ℚ t) *ℚ f
@@ -91,7 +107,7 @@ cosines_lie t x m h =
     (outward_holds (nested Cosine (square_of t) 1 m) 10000 _ (omega arith)
     (subst (λ (r : ℚ). Holds (nested Cosine (square_of t) 1 m) r)
     (coarse _ _ (whole (pos grid)) (whole (pos 10000)) (sym (whole-mul (pos grid) (pos 10000))) ∙ ap (λ (r : ℚ). (r *ℚ whole (pos grid)) *ℚ whole (pos 10000)) (sym (cosine_sum_is x m)))
-    (nested_holds Cosine (square_of t) (cls x *ℚ cls x) m 1 (omega arith) (square_holds t x h)))))
+    (nested_holds Cosine (square_of t) (cls x *ℚ cls x) (λ k. factor (cls x) (2 * k)) m 1 (cosine_factor (cls x)) (omega arith) (square_holds t x h)))))
 
 along : (x g q t : ℚ) → (x *ℚ g) *ℚ (q *ℚ t) ≡ ((x *ℚ q) *ℚ g) *ℚ t
 along x g q t = ring rats (nth 0ℚ (x ∷ g ∷ q ∷ t ∷ [])) (times (times (var 0) (var 1)) (times (var 2) (var 3))) (times (times (times (var 0) (var 2)) (var 1)) (var 3)) refl
@@ -105,7 +121,7 @@ sines_lie t x m h =
     (subst (λ (r : ℚ). Holds (products t (nested Sine (square_of t) 1 m)) r)
     (along _ _ _ _ ∙ ap (λ (r : ℚ). (r *ℚ whole (pos grid)) *ℚ whole (pos scale)) (sym (sine_sum_is x m)))
     (products_hold t (nested Sine (square_of t) 1 m) _ _ (from_lies x t h)
-    (nested_holds Sine (square_of t) (cls x *ℚ cls x) m 1 (omega arith) (square_holds t x h))))))
+    (nested_holds Sine (square_of t) (cls x *ℚ cls x) (λ k. factor (cls x) (2 * k + 1)) m 1 (sine_factor (cls x)) (omega arith) (square_holds t x h))))))
 
 -- ---- the cut and the clamp
 one_times : (g : ℚ) → 1ℚ *ℚ g ≡ g
@@ -140,10 +156,10 @@ one-le : (x : Frac) → Le one x → G ≤ℚ (cls x *ℚ G)
 one-le x h = from_one G (cls x) (nonneg_whole grid) (subst (λ (r : ℚ). r ≤ℚ cls x) cls-one ((cls-le one x).0 h))
 
 le-minus : (x : Frac) → Le x minus_one → (cls x *ℚ G) ≤ℚ whole (neg_ℤ (pos grid))
-le-minus x h = subst (λ (r : ℚ). (cls x *ℚ G) ≤ℚ r) (sym (whole-neg (pos grid))) (to_minus G (cls x) (nonneg_whole grid) (subst (λ (r : ℚ). cls x ≤ℚ r) cls-minus ((cls-le x minus_one).0 h)))
+le-minus x h = subst (λ (r : ℚ). (cls x *ℚ G) ≤ℚ r) (sym (whole-neg (pos grid))) (to_minus G (cls x) (nonneg_whole grid) (subst (λ (r : ℚ). cls x ≤ℚ r) cls-minus_one ((cls-le x minus_one).0 h)))
 
 minus-le : (x : Frac) → Le minus_one x → whole (neg_ℤ (pos grid)) ≤ℚ (cls x *ℚ G)
-minus-le x h = subst (λ (r : ℚ). r ≤ℚ (cls x *ℚ G)) (sym (whole-neg (pos grid))) (from_minus G (cls x) (nonneg_whole grid) (subst (λ (r : ℚ). r ≤ℚ cls x) cls-minus ((cls-le minus_one x).0 h)))
+minus-le x h = subst (λ (r : ℚ). r ≤ℚ (cls x *ℚ G)) (sym (whole-neg (pos grid))) (from_minus G (cls x) (nonneg_whole grid) (subst (λ (r : ℚ). r ≤ℚ cls x) cls-minus_one ((cls-le minus_one x).0 h)))
 
 pub cut_lies : (x : Frac) (v : Interval) → LiesIn x v → LiesIn (cut x) (clamped v)
 cut_lies x v h = by_one (total_le one x)
@@ -154,7 +170,7 @@ cut_lies x v h = by_one (total_le one x)
     by_minus : Le x one → Le minus_one x ⊎ Le x minus_one → LiesIn (cut x) (clamped v)
     by_minus a (inl b) = lies_in_same x (cut x) (clamped v) (same_sym (cut x) x (is_cut.inside x b a)) (to_lies x (clamped v) (clamped_holds v _ k (minus-le x b) (le-one x a)))
     by_minus a (inr b) = lies_in_same minus_one (cut x) (clamped v) (same_sym (cut x) minus_one (is_cut.below x b))
-        (to_lies minus_one (clamped v) (subst (λ (r : ℚ). Holds (clamped v) r) (whole-neg (pos grid) ∙ neg_times G ∙ ap (λ (r : ℚ). r *ℚ G) (sym cls-minus)) (clamped_bottom v _ k (le-minus x b))))
+        (to_lies minus_one (clamped v) (subst (λ (r : ℚ). Holds (clamped v) r) (whole-neg (pos grid) ∙ neg_times G ∙ ap (λ (r : ℚ). r *ℚ G) (sym cls-minus_one)) (clamped_bottom v _ k (le-minus x b))))
       where
         neg_times : (g : ℚ) → neg_ℚ g ≡ neg_ℚ 1ℚ *ℚ g
         neg_times g = ring rats (nth 0ℚ (g ∷ [])) (minus (var 0)) (times (minus eone) (var 0)) refl

@@ -8,13 +8,13 @@ use Rattle.rb_frac.specs.Pairs as Pairs
 use Rattle.rb_frac.proofs.Reduce.{same_refl, same_sym, same_trans}
 use Rattle.rb_frac.proofs.Rational.{ℚ, ◌+ℚ◌, ◌*ℚ◌, ◌≤ℚ◌, sound, exact}
 use Rattle.rb_frac.proofs.Hom.{frac_ring, cls_of_add, cls_of_mul}
-use Rattle.rb_frac.proofs.Interval.{lies_in, units}
 use Rattle.rb_frac.proofs.Ring.{Expr, var, enul, expr}
 use Rattle.rb_frac.proofs.Vec.{nth, v3}
 use Rattle.rb_num.specs.Interval.{Interval, grid}
 use Rattle.rb_num.specs.Fraction.{LiesIn}
 use Rattle.rb_num.specs.Arith.{fractions}
 use Rattle.rb_num.proofs.Bridges.{expressions}
+use Rattle.rb_num.proofs.Same.{lies_in_same}
 use Rattle.rbd.specs.Flat.{SameVector, vector}
 use Rattle.rbd.specs.Rules.{moved, acceleration, needed_force, borne, joint_force, torque}
 use Rattle.rbd.proofs.Related.{Vectors}
@@ -30,12 +30,7 @@ same_mul x y u v h k =
 
 -- the same number lies in the same intervals
 pub lies_same : (x y : Frac) (v : Interval) → Same x y → LiesIn x v → LiesIn y v
-lies_same x y v h k =
-    let positive : 0 < grid = lit< tt in
-    let at_x = (lies_in v.lo v.hi grid positive x).0 (k.above, k.below) in
-    let P : ℚ → Type 0 = λ q. (units v.lo grid positive ≤ℚ q) × (q ≤ℚ units v.hi grid positive) in
-    let at_y = (lies_in v.lo v.hi grid positive y).1 (subst P (sound x y h) at_x) in
-    record { above = at_y.0; below = at_y.1 }
+lies_same x y v h k = lies_in_same x y v h k
 
 -- ---- the same for vectors
 pub vectors_refl : (u : V3 Frac) → SameVector u u
