@@ -1,13 +1,14 @@
 -- What an interval is to the contracts: its two ends, whole numbers that count units. `grid` units make one.
-use Rattle.std.specs.Prelude.{ℕ, ◌^◌, ℤ, pos, neg_ℤ, ◌+ℤ◌, ◌-ℤ◌, ◌≤ℤ◌}
+use Rattle.std.specs.Prelude.{ℕ, unsigned_abs, ℤ, pos, neg_ℤ, ◌+ℤ◌, ◌-ℤ◌, ◌≤ℤ◌}
+use Rattle.rb_num.specs.declared.interval.TheConstants.{S, B}
 
--- how many units make one
+-- how many units make one: the code's constant
 abbrev pub grid : ℕ
-grid = 1000000000000
+grid = unsigned_abs S
 
--- no end is larger in size than this number of units
+-- no end is larger in size than this number of units, 2^120: the code's constant
 abbrev pub limit : ℕ
-limit = 2 ^ 120
+limit = unsigned_abs B
 
 -- the fractions x with lo ≤ x · grid ≤ hi
 pub record Interval : Type 0 where

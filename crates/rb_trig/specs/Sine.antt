@@ -1,5 +1,5 @@
 -- The sine and the cosine of an interval of angles: nested products of intervals for the two sums of terms, and the hull of both.
-use Rattle.std.specs.Prelude.{ℕ, zero, suc, ◌+◌, ◌-◌, ◌*◌, ◌/◌, ℤ, pos, neg_ℤ, ◌≤ℤ◌, ◌*ℤ◌, ◌&&◌, Bool, cond, Result, Ok, Err}
+use Rattle.std.specs.Prelude.{ℕ, zero, suc, ◌+◌, ◌-◌, ◌*◌, ◌/◌, unsigned_abs, ℤ, pos, neg_ℤ, ◌≤ℤ◌, ◌*ℤ◌, ◌&&◌, Bool, cond, Result, Ok, Err}
 use Rattle.std.specs.Int.Signed.{le_z}
 use Rattle.rb_frac.specs.Frac.{Frac}
 use Rattle.rb_num.specs.Interval.{Interval, interval, difference_of, grid}
@@ -7,17 +7,18 @@ use Rattle.rb_num.specs.Hull.{hull_of}
 use Rattle.rb_num.specs.Fraction.{LiesIn}
 use Rattle.rb_num.specs.Sine.{terms, GoesWith}
 use Rattle.rb_trig.specs.declared.sine.AngleRange.{AngleRange}
+use Rattle.rb_trig.specs.declared.sine.TheConstants.{ANGLE_LIMIT, T}
 use Rattle.rb_trig.specs.declared.sine.Series.{Series}
 use Rattle.rb_trig.specs.declared.sine.Series.TheVariants.{Sine, Cosine}
 use Rattle.rb_trig.specs.Ends.{outward, products, squares, clamped}
 
--- the largest size of an angle, in units
+-- the largest size of an angle, in units: the code's constant
 abbrev pub angle_limit : ℕ
-angle_limit = 8 * grid
+angle_limit = unsigned_abs ANGLE_LIMIT
 
--- the nested products count parts of one in this number
+-- the nested products count parts of one in this number: the code's constant
 abbrev pub scale : ℕ
-scale = 10000000000000000
+scale = unsigned_abs T
 
 -- the ends of t are at most `angle_limit` in size
 pub record IsAngle (t : Interval) : Type 0 where

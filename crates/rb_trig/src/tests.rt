@@ -1,5 +1,14 @@
-//! Quotients of intervals, with ends that were worked out by hand.
+//! Quotients of intervals, with ends that were worked out by hand, and types that threads share.
+use crate::{AngleRange, AxisFault};
 use rb_num::{Iv, NumFault, S};
+
+fn is_shared<T: Send + Sync>() {}
+
+#[test]
+fn types_are_shared(_rt: HostRuntime) {
+    is_shared::<AngleRange>();
+    is_shared::<AxisFault>();
+}
 
 #[test]
 fn thirds(rt: HostRuntime) {
