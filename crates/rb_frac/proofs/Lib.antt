@@ -11,5 +11,5 @@ pub mod Quote
 pub mod Transfer
 pub mod Interval
 pub mod Hom
-pub mod Laws
+pub mod FracLaws
 pub mod Variables

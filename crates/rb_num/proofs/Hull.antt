@@ -12,9 +12,6 @@ use Rattle.rb_num.proofs.Quotients.{cancel_pos}
 use Rattle.rb_frac.specs.Frac.{Frac}
 use Rattle.rb_num.specs.Fraction.{LiesIn, EnclosesHull, EnclosesMeet, IsWithinBoth}
 
-least_le : (a b c d : ℤ) → a ≤ℤ b → b ≡ c → c ≤ℤ d → a ≤ℤ d
-least_le a b c d h e k = omega (arith, ints)
-
 pub hull_made : {a1 a2 b1 b2 r q : ℤ} {a b : Interval} → EndsAre a1 a2 a → EndsAre b1 b2 b
     → r ≡ int_min (to_z w128 (of_z w128 a1)) (to_z w128 (of_z w128 b1)) → q ≡ int_max (to_z w128 (of_z w128 a2)) (to_z w128 (of_z w128 b2))
     → Made (hull_of a b) (to_z w128 (of_z w128 r)) (to_z w128 (of_z w128 q))

@@ -2,9 +2,7 @@
 use Rattle.std.proofs.Common.{◌≡◌, ℤ, ◌*ℤ◌, ap, ◌∙◌, sym, subst, refl, to_z, of_z, arith}
 use mir.Syntax.{w128}
 use mir.Val.{SFits}
-use Rattle.std.specs.Int.{int_min, int_max}
 use Rattle.rb_num.specs.Interval.{Interval, IsWithin}
-use Rattle.rb_num.specs.Dot.{least_product, greatest_product}
 use Rattle.rb_num.proofs.Ends.{read, both}
 use Rattle.std.proofs.lemmas.Int.{ints}
 
@@ -23,19 +21,12 @@ product_at {x} {y} {x'} {y'} {z} p q h =
     let e = same_product p q in
     (within_at e h.0, read z (within_fits (within_at (sym h.1) h.0)) (h.1 ∙ e))
 
-pub least_is : (p : Interval × Interval) (ll lh hl hh r : ℤ) → SFits w128 r
-    → r ≡ int_min (int_min ll lh) (int_min hl hh)
+-- the least and the greatest of four products are a function of the four, which are the products of ends
+pub four_is : (f : ℤ → ℤ → ℤ) (p : Interval × Interval) (ll lh hl hh r : ℤ) → SFits w128 r
+    → r ≡ f (f ll lh) (f hl hh)
     → ll ≡ p.0.lo *ℤ p.1.lo → lh ≡ p.0.lo *ℤ p.1.hi → hl ≡ p.0.hi *ℤ p.1.lo → hh ≡ p.0.hi *ℤ p.1.hi
-    → to_z w128 (of_z w128 r) ≡ least_product p
-unfolding least_product
-least_is p ll lh hl hh r f e a b c d = read r f (e ∙ both int_min (both int_min a b) (both int_min c d))
-
-pub greatest_is : (p : Interval × Interval) (ll lh hl hh r : ℤ) → SFits w128 r
-    → r ≡ int_max (int_max ll lh) (int_max hl hh)
-    → ll ≡ p.0.lo *ℤ p.1.lo → lh ≡ p.0.lo *ℤ p.1.hi → hl ≡ p.0.hi *ℤ p.1.lo → hh ≡ p.0.hi *ℤ p.1.hi
-    → to_z w128 (of_z w128 r) ≡ greatest_product p
-unfolding greatest_product
-greatest_is p ll lh hl hh r f e a b c d = read r f (e ∙ both int_max (both int_max a b) (both int_max c d))
+    → to_z w128 (of_z w128 r) ≡ f (f (p.0.lo *ℤ p.1.lo) (p.0.lo *ℤ p.1.hi)) (f (p.0.hi *ℤ p.1.lo) (p.0.hi *ℤ p.1.hi))
+four_is f p ll lh hl hh r s e a b c d = read r s (e ∙ both f (both f a b) (both f c d))
 
 pub same_pair : {a b c d : ℤ} → a ≡ c → b ≡ d → ◌≡◌ {A = ℤ × ℤ} (a, b) (c, d)
 same_pair {a} {b} {c} {d} p q = subst (λ (x : ℤ). ◌≡◌ {A = ℤ × ℤ} (a, b) (x, d)) p (subst (λ (y : ℤ). ◌≡◌ {A = ℤ × ℤ} (a, b) (a, y)) q refl)

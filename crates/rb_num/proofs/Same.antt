@@ -2,10 +2,11 @@
 use Rattle.std.proofs.Common.{◌↔◌}
 use Rattle.rb_frac.specs.Frac.{Frac}
 use Rattle.rb_frac.proofs.Reduce.{same_refl}
-use Rattle.rb_frac.proofs.Laws.{le_same}
+use Rattle.rb_frac.proofs.FracLaws.{le_same}
 use Rattle.rb_frac.proofs.Rational.{◌≤ℚ◌, cls, cls-le}
 use Rattle.rb_num.specs.Interval.{Interval}
-use Rattle.rb_num.specs.Fraction.{LiesIn, LiesInKeepsSame}
+use Rattle.rb_num.specs.Fraction.{LiesIn}
+use Rattle.rb_num.specs.Laws.{LiesInKeepsSame}
 use Rattle.rb_num.specs.Least.{units}
 
 -- the two orders of numbers

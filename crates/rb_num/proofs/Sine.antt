@@ -6,9 +6,10 @@ use Rattle.rb_frac.specs.Frac.{Frac, Same, Le}
 use Rattle.rb_frac.specs.Laws.{one}
 use Rattle.rb_frac.specs.Ops.{sum}
 use Rattle.rb_frac.specs.Positive.{suc_pos}
-use Rattle.rb_frac.proofs.Laws.{trans_le, antisym_le, total_le, le_same}
+use Rattle.rb_frac.proofs.FracLaws.{trans_le, antisym_le, total_le, le_same}
 use Rattle.rb_frac.proofs.Reduce.{same_refl, same_sym, same_trans}
-use Rattle.rb_num.specs.Sine.{minus_one, factorial, power, sine_term, cosine_term, is_le, lesser, greater, cut, sine_sum, cosine_sum, terms, IsBetween, IsCut, HasPair}
+use Rattle.rb_num.specs.Sine.{minus_one, factorial, power, sine_term, cosine_term, is_le, lesser, greater, cut, sine_sum, cosine_sum, terms, IsBetween}
+use Rattle.rb_num.specs.Laws.{IsCut, HasPair}
 use Rattle.rb_num.proofs.Refused.{decides_le}
 
 -- the test is true, and x ≤ y; or it is false, and y ≤ x

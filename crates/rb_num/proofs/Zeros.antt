@@ -1,8 +1,9 @@
 -- Zero in sums and in sums of products: it changes nothing, and no refusal either.
-use Rattle.std.proofs.Common.{◌≡◌, ℤ, pos, ◌+ℤ◌, List, [], ◌∷◌, ◌++◌, Bool, true, ◌&&◌, cond, Ok, Err, refl, sym, ap, ◌∙◌, arith}
+use Rattle.std.proofs.Common.{◌≡◌, ℤ, pos, ◌+ℤ◌, ◌*ℤ◌, List, [], ◌∷◌, ◌++◌, Bool, true, ◌&&◌, cond, Ok, Err, refl, sym, ap, ◌∙◌, arith}
+use mathlib.Core.Path.{ap₂}
 use Rattle.std.proofs.lemmas.Int.{ints, clamps}
 use Rattle.rb_num.specs.declared.interval.NumFault.TheVariants.{Size}
-use Rattle.rb_num.specs.Interval.{Interval, IsInterval, interval, grid}
+use Rattle.rb_num.specs.Interval.{Interval, IsInterval, IsWithin, EndsFit, interval, sum_of, difference_of, grid}
 use Rattle.rb_num.specs.Dot.{least_product, greatest_product, products_fit, all_fit, int_sum_by, dot_of, floor_of, ceil_of, iv_dot}
 use Rattle.rb_num.specs.Refusing.{iv_add, iv_sub}
 use Rattle.rb_num.specs.Laws.{zero, DotLeavesOutZero, ZeroIsNeutral}
@@ -14,31 +15,22 @@ pub record IsNull (p : Interval × Interval) : Type 0 where
   pub least : least_product p ≡ pos 0
   pub greatest : greatest_product p ≡ pos 0
 
-pub first_null : (v : Interval) → IsNull (zero, v)
+null_at : (p : Interval × Interval) → p.0.lo *ℤ p.1.lo ≡ pos 0 → p.0.lo *ℤ p.1.hi ≡ pos 0 → p.0.hi *ℤ p.1.lo ≡ pos 0 → p.0.hi *ℤ p.1.hi ≡ pos 0 → IsNull p
 unfolding least_product greatest_product
-first_null v = record {
-  fits = (decides_products (zero, v)).1 record {
-    lo_lo = record { above = omega (arith, ints); below = omega (arith, ints) };
-    lo_hi = record { above = omega (arith, ints); below = omega (arith, ints) };
-    hi_lo = record { above = omega (arith, ints); below = omega (arith, ints) };
-    hi_hi = record { above = omega (arith, ints); below = omega (arith, ints) };
-  };
+null_at p a b c d = record {
+  fits = (decides_products p).1 record { lo_lo = within _ a; lo_hi = within _ b; hi_lo = within _ c; hi_hi = within _ d };
   least = omega (arith, ints, clamps);
   greatest = omega (arith, ints, clamps);
 }
+  where
+    within : (z : ℤ) → z ≡ pos 0 → IsWithin z
+    within z e = record { above = omega (arith, ints); below = omega (arith, ints) }
 
-pub second_null : (v : Interval) → IsNull (v, zero)
-unfolding least_product greatest_product
-second_null v = record {
-  fits = (decides_products (v, zero)).1 record {
-    lo_lo = record { above = omega (arith, ints); below = omega (arith, ints) };
-    lo_hi = record { above = omega (arith, ints); below = omega (arith, ints) };
-    hi_lo = record { above = omega (arith, ints); below = omega (arith, ints) };
-    hi_hi = record { above = omega (arith, ints); below = omega (arith, ints) };
-  };
-  least = omega (arith, ints, clamps);
-  greatest = omega (arith, ints, clamps);
-}
+first_null : (v : Interval) → IsNull (zero, v)
+first_null v = null_at (zero, v) (omega (arith, ints)) (omega (arith, ints)) (omega (arith, ints)) (omega (arith, ints))
+
+second_null : (v : Interval) → IsNull (v, zero)
+second_null v = null_at (v, zero) (omega (arith, ints)) (omega (arith, ints)) (omega (arith, ints)) (omega (arith, ints))
 
 -- ---- left out of a list
 fit_without : (p : Interval × Interval) (ps qs : List (Interval × Interval)) → products_fit p ≡ true → all_fit (ps ++ p ∷ qs) ≡ all_fit (ps ++ qs)
@@ -72,44 +64,33 @@ pub dot-head_zero_second : (v : Interval) (qs : List (Interval × Interval)) →
 dot-head_zero_second v qs = dot-zero_second v [] qs
 
 -- of no pairs
-pub dot-nothing : iv_dot [] ≡ Ok zero
+pub dot-none : iv_dot [] ≡ Ok zero
 unfolding iv_dot dot_of all_fit
-dot-nothing = refl
+dot-none = refl
 
 -- ---- in sums and differences
-ends : {a b c d : ℤ} → a ≡ c → b ≡ d → interval a b ≡ interval c d
-ends {a} {b} {c} {d} p q = ap (λ (t : ℤ). interval t b) p ∙ ap (interval c) q
+-- w is v, and fits
+as_it_is : (v w : Interval) → IsInterval v.lo v.hi → v.lo ≡ w.lo → v.hi ≡ w.hi → EndsFit w × (v ≡ w)
+as_it_is v w h p q = (
+  record {
+    low = record { above = omega (arith, ints, h); below = omega (arith, ints, h) };
+    high = record { above = omega (arith, ints, h); below = omega (arith, ints, h) };
+  },
+  ap₂ interval p q,
+)
 
 pub add-zero_right : (v : Interval) → IsInterval v.lo v.hi → iv_add v zero ≡ Ok v
-add-zero_right v h = sym (added (Ok v) v zero (
-  record {
-    low = record { above = omega (arith, ints, h); below = omega (arith, ints, h) };
-    high = record { above = omega (arith, ints, h); below = omega (arith, ints, h) };
-  },
-  ends (omega (arith, ints)) (omega (arith, ints)),
-) tt)
+add-zero_right v h = sym (added (Ok v) v zero (as_it_is v (sum_of v zero) h (omega (arith, ints)) (omega (arith, ints))) tt)
 
 pub add-zero_left : (v : Interval) → IsInterval v.lo v.hi → iv_add zero v ≡ Ok v
-add-zero_left v h = sym (added (Ok v) zero v (
-  record {
-    low = record { above = omega (arith, ints, h); below = omega (arith, ints, h) };
-    high = record { above = omega (arith, ints, h); below = omega (arith, ints, h) };
-  },
-  ends (omega (arith, ints)) (omega (arith, ints)),
-) tt)
+add-zero_left v h = sym (added (Ok v) zero v (as_it_is v (sum_of zero v) h (omega (arith, ints)) (omega (arith, ints))) tt)
 
 pub sub-zero : (v : Interval) → IsInterval v.lo v.hi → iv_sub v zero ≡ Ok v
-sub-zero v h = sym (subtracted (Ok v) v zero (
-  record {
-    low = record { above = omega (arith, ints, h); below = omega (arith, ints, h) };
-    high = record { above = omega (arith, ints, h); below = omega (arith, ints, h) };
-  },
-  ends (omega (arith, ints)) (omega (arith, ints)),
-) tt)
+sub-zero v h = sym (subtracted (Ok v) v zero (as_it_is v (difference_of v zero) h (omega (arith, ints)) (omega (arith, ints))) tt)
 
 -- ---- as the laws say it
 pub leaves_out_zero : DotLeavesOutZero
-leaves_out_zero = record { first = dot-zero_first; second = dot-zero_second }
+leaves_out_zero = record { none = dot-none; first = dot-zero_first; second = dot-zero_second }
 
 pub zero_is_neutral : ZeroIsNeutral
 zero_is_neutral = record { add_right = add-zero_right; add_left = add-zero_left; sub = sub-zero }

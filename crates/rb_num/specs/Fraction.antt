@@ -1,6 +1,6 @@
 -- Fractions that lie in intervals, and what each operation encloses: the results for all fractions that lie in its arguments.
 use Rattle.std.specs.Prelude.{pos, ◌*ℤ◌, ◌≤ℤ◌, List, Option, IsSomeAnd}
-use Rattle.rb_frac.specs.Frac.{Frac, Same, fracs, add, sub, neg, quot}
+use Rattle.rb_frac.specs.Frac.{Frac, fracs, add, sub, neg, quot}
 use Rattle.rb_frac.specs.Pairs.{dot, PairsRelate}
 use Rattle.rb_num.specs.Interval.{Interval, grid}
 
@@ -40,7 +40,3 @@ pub record EnclosesMeet (a b : Interval) (r : Option Interval) : Type 0 where
 pub record IsWithinBoth (a b v : Interval) : Type 0 where
   pub left : (x : Frac) → LiesIn x v → LiesIn x a
   pub right : (x : Frac) → LiesIn x v → LiesIn x b
-
--- that to lie in an interval is a property of the number
-abbrev pub LiesInKeepsSame : Type 0
-LiesInKeepsSame = (x y : Frac) (v : Interval) → Same x y → LiesIn x v → LiesIn y v

@@ -1,16 +1,25 @@
--- Laws of the arithmetic of intervals: what the number zero does in it, and which test tells that two intervals meet.
-use Rattle.std.specs.Prelude.{pos, true, List, ◌∷◌, ◌++◌, ◌≡◌, ◌↔◌, Ok}
+-- Laws of intervals, and of the sines and the cosines of fractions.
+use Rattle.std.specs.Prelude.{pos, true, List, [], ◌∷◌, ◌++◌, ◌≡◌, ◌↔◌, Ok}
+use Rattle.rb_frac.specs.Frac.{Frac, Same, Le}
+use Rattle.rb_frac.specs.Laws.{one}
 use Rattle.rb_num.specs.Interval.{Interval, IsInterval, interval}
 use Rattle.rb_num.specs.Dot.{iv_dot}
 use Rattle.rb_num.specs.Refusing.{iv_add, iv_sub}
 use Rattle.rb_num.specs.Hull.{Meet, do_meet}
+use Rattle.rb_num.specs.Fraction.{LiesIn}
+use Rattle.rb_num.specs.Sine.{minus_one, cut, GoesWith}
+
+-- that to lie in an interval is a property of the number
+abbrev pub LiesInKeepsSame : Type 0
+LiesInKeepsSame = (x y : Frac) (v : Interval) → Same x y → LiesIn x v → LiesIn y v
 
 -- the number zero, alone
 abbrev pub zero : Interval
 zero = interval (pos 0) (pos 0)
 
--- a pair with zero may be left out of a sum of products, which is refused for the others alone
+-- a pair with zero may be left out of a sum of products, which is refused for the others alone; the sum of none is zero
 pub record DotLeavesOutZero : Type 0 where
+  pub none : iv_dot [] ≡ Ok zero
   pub first : (v : Interval) (ps qs : List (Interval × Interval)) → iv_dot (ps ++ (zero, v) ∷ qs) ≡ iv_dot (ps ++ qs)
   pub second : (v : Interval) (ps qs : List (Interval × Interval)) → iv_dot (ps ++ (v, zero) ∷ qs) ≡ iv_dot (ps ++ qs)
 
@@ -23,3 +32,14 @@ pub record ZeroIsNeutral : Type 0 where
 -- the test is true exactly where some fraction lies in both
 abbrev pub DoMeetDecides : Type 0
 DoMeetDecides = (a b : Interval) → (do_meet a b ≡ true) ↔ Meet a b
+
+-- ---- sines and cosines
+-- what the cut is: x itself from -1 to 1, and else the end that is nearer
+pub record IsCut : Type 0 where
+  pub inside : (x : Frac) → Le minus_one x → Le x one → Same (cut x) x
+  pub above : (x : Frac) → Le one x → Same (cut x) one
+  pub below : (x : Frac) → Le x minus_one → Same (cut x) minus_one
+
+-- each angle has a pair
+abbrev pub HasPair : Type 0
+HasPair = (t : Frac) → (s : Frac) × (c : Frac) × GoesWith t s c

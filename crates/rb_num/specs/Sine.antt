@@ -1,7 +1,7 @@
 -- Sines and cosines by their series: a pair of fractions goes with an angle where it lies between two sums of terms next to each other.
 use Rattle.std.specs.Prelude.{ℕ, zero, suc, ◌+◌, ◌*◌, pos, negsuc, ◌*ℤ◌, Bool, cond}
 use Rattle.std.specs.Int.Signed.{le_z}
-use Rattle.rb_frac.specs.Frac.{Frac, Same, Le, mul, quot, whole, fracs}
+use Rattle.rb_frac.specs.Frac.{Frac, Le, mul, quot, whole, fracs}
 use Rattle.rb_frac.specs.Laws.{one}
 use Rattle.rb_frac.specs.Ops.{sum}
 
@@ -60,14 +60,3 @@ terms = 24
 pub record GoesWith (t s c : Frac) : Type 0 where
   pub sine : IsBetween (cut (sine_sum t terms)) (cut (sine_sum t (terms + 1))) s
   pub cosine : IsBetween (cut (cosine_sum t terms)) (cut (cosine_sum t (terms + 1))) c
-
--- ---- laws
--- what the cut is: x itself from -1 to 1, and else the end that is nearer
-pub record IsCut : Type 0 where
-  pub inside : (x : Frac) → Le minus_one x → Le x one → Same (cut x) x
-  pub above : (x : Frac) → Le one x → Same (cut x) one
-  pub below : (x : Frac) → Le x minus_one → Same (cut x) minus_one
-
--- each angle has a pair
-abbrev pub HasPair : Type 0
-HasPair = (t : Frac) → (s : Frac) × (c : Frac) × GoesWith t s c

@@ -1,6 +1,6 @@
-ghost use Rattle.rb_num.specs.Fraction.{LiesInKeepsSame};
-ghost use Rattle.rb_num.specs.Laws.{DoMeetDecides, DotLeavesOutZero, ZeroIsNeutral};
-ghost use Rattle.rb_num.specs.Sine.{HasPair, IsCut};
+//! The laws of intervals, and of sines and cosines.
+
+ghost use Rattle.rb_num.specs.Laws.{DoMeetDecides, DotLeavesOutZero, HasPair, IsCut, LiesInKeepsSame, ZeroIsNeutral};
 
 /// A fraction lies in an interval where another of the same number does.
 pub fn lies_in_law()
@@ -17,7 +17,8 @@ pub fn sine_law()
     ensures { HasPair }
 {}
 
-/// A pair with zero in it may be left out of the pairs of `dot`, also where `dot` is refused.
+/// A pair with zero in it may be left out of the pairs of `dot`, also where `dot` is refused; the
+/// sum of no pairs is zero.
 pub fn dot_without_zero_law()
     ensures { DotLeavesOutZero }
 {}

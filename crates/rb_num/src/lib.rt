@@ -7,7 +7,7 @@
 #![tactic(auto)]
 
 mod interval;
-mod laws;
+pub mod laws;
 
 pub use interval::{B, Iv, NumFault, S, dot};
 pub use laws::{cut_law, dot_without_zero_law, lies_in_law, meet_law, sine_law, zero_law};

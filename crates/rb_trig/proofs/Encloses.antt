@@ -6,7 +6,7 @@ use Rattle.rb_frac.specs.Laws.{one}
 use Rattle.rb_frac.proofs.Ring.{var, eone, plus, times, minus, ring}
 use Rattle.rb_frac.proofs.Vec.{nth}
 use Rattle.rb_frac.proofs.Combine.{combine}
-use Rattle.rb_frac.proofs.Laws.{total_le}
+use Rattle.rb_frac.proofs.FracLaws.{total_le}
 use Rattle.rb_frac.proofs.Reduce.{same_sym}
 use Rattle.rb_frac.proofs.Rational.{ℚ, ◌+ℚ◌, ◌*ℚ◌, neg_ℚ, 0ℚ, 1ℚ, inv, rats, cls, cls-le, cls-one, mul_inv, ◌≤ℚ◌}
 use Rattle.rb_frac.proofs.Order.{mul_le_ℚ, le_refl_ℚ, le_trans_ℚ}

@@ -17,7 +17,7 @@ use Rattle.rb_frac.proofs.Rational.{ℚ, ◌+ℚ◌, ◌*ℚ◌, 0ℚ, cls, cls-
 use Rattle.rb_frac.proofs.Hom.{cls_of_add, cls_of_mul}
 use Rattle.rb_frac.proofs.Order.{le_trans_ℚ, add_le_ℚ, square_nn}
 use Rattle.rb_frac.proofs.Interval.{bound}
-use Rattle.rb_num.specs.Interval.{Interval, IsWithin, interval, grid, limit}
+use Rattle.rb_num.specs.Interval.{Interval, IsInterval, IsWithin, interval, grid, limit}
 use Rattle.rb_num.specs.Dot.{is_within, floor_of, ceil_of}
 use Rattle.rb_num.specs.Quotient.{HasZero}
 use Rattle.rb_num.specs.Refusing.{has_zero}
@@ -34,7 +34,7 @@ use Rattle.rb_trig.specs.Axis.{floor_root, ceil_root, squared_length, factor, Is
 use Rattle.rb_trig.proofs.Numbers.{whole, whole-add, whole-mul, whole-le, whole_pos, nonneg_whole, cancel_ℚ, Holds, from_lies}
 use Rattle.rb_trig.proofs.Steps.{decides_zero, squares_hold}
 use Rattle.rb_trig.proofs.Sizes.{least_square_nonneg}
-use Rattle.rb_trig.proofs.Read.{held, Makes, makes, squares_interval}
+use Rattle.rb_trig.proofs.Read.{held, lo_held, hi_held, Makes, makes, squares_interval}
 use Rattle.rb_trig.proofs.Root.{floor_low, floor_some, ceil_high, floor_le_ceil}
 
 -- ---- the squared length
@@ -262,8 +262,11 @@ zeros x y z r e = (
     go false t c d i = absurd (cc)
 
 -- ---- in the code
-ends : {a b c d : ℤ} → a ≡ c → b ≡ d → interval a b ≡ interval c d
-ends {a} {b} {c} {d} p q = ap (λ (t : ℤ). interval t b) p ∙ ap (λ (t : ℤ). interval c t) q
+pub low_is : (r : ℤ) (v u : Interval) → r ≡ v.lo → IsInterval v.lo v.hi → v ≡ u → held r ≡ u.lo
+low_is r v u e h p = lo_held r v e h ∙ ap (λ (t : Interval). t.lo) p
+
+pub high_is : (r : ℤ) (v u : Interval) → r ≡ v.hi → IsInterval v.lo v.hi → v ≡ u → held r ≡ u.hi
+high_is r v u e h p = hi_held r v e h ∙ ap (λ (t : Interval). t.hi) p
 
 three_fit : (a b c : ℤ) → IsWithin a → IsWithin b → IsWithin c → SFits w128 (a +ℤ b +ℤ c)
 three_fit a b c i j k = omega (arith, ints, i.above, i.below, j.above, j.below, k.above, k.below)
@@ -298,11 +301,11 @@ unfolding squared_length
 lengths_are x y z a b f p q =
     let l = length_is x y z f in
     let l1 = l.low in let l2 = l.ordered in let l3 = l.high in
-    record { value = ends p q; low = omega (arith, ints, p, l1); ordered = omega (arith, ints, p, q, l2); high = omega (arith, ints, q, l3) }
+    record { value = ap₂ interval p q; low = omega (arith, ints, p, l1); ordered = omega (arith, ints, p, q, l2); high = omega (arith, ints, q, l3) }
 
 -- the same, read from their bits
 pub lengths_held : (q : Interval) (a b : ℤ) → interval a b ≡ q → pos 0 ≤ℤ a → a ≤ℤ b → b ≤ℤ pos (3 * limit) → interval (held a) (held b) ≡ q
-lengths_held q a b e l o h = ends (read a (omega (arith, ints, l, o, h)) refl) (read b (omega (arith, ints, l, o, h)) refl) ∙ e
+lengths_held q a b e l o h = ap₂ interval (read a (omega (arith, ints, l, o, h)) refl) (read b (omega (arith, ints, l, o, h)) refl) ∙ e
 
 pub is_length : (q : Interval) (a b : ℤ) → interval a b ≡ q → pos 0 <ℤ a → a ≤ℤ b → b ≤ℤ pos (3 * limit) → IsLength q
 is_length q a b e l o h = subst IsLength e (record { some = l; ordered = o; high = h })

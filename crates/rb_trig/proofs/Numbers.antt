@@ -6,7 +6,7 @@ use Rattle.rb_frac.specs.Frac.{Frac}
 use Rattle.rb_frac.proofs.Ring.{var, eone, plus, times, minus, ring}
 use Rattle.rb_frac.proofs.Vec.{nth}
 use Rattle.rb_frac.proofs.Whole.{whole as whole_ring}
-use Rattle.rb_frac.proofs.Rational.{ℚ, ◌+ℚ◌, ◌*ℚ◌, neg_ℚ, 0ℚ, 1ℚ, inv, cls, cls-le, cls-zero, cls-one, null-cls, sound, nn-cls, nn_mul, mul_inv, ◌≤ℚ◌}
+use Rattle.rb_frac.proofs.Rational.{ℚ, ◌+ℚ◌, ◌*ℚ◌, neg_ℚ, 0ℚ, inv, cls, cls-le, cls-zero, null-cls, sound, nn-cls, nn_mul, mul_inv, ◌≤ℚ◌}
 use Rattle.rb_frac.proofs.Hom.{cls_of_add, cls_of_mul, cls_of_neg}
 use Rattle.rb_frac.proofs.Interval.{bound, IsPos, inv_pos}
 use Rattle.rb_num.specs.Interval.{Interval, grid}
@@ -41,10 +41,6 @@ le-whole a b h = cancel_pos a b 1 (omega arith) ((cls-le (F.whole a) (F.whole b)
 pub whole_zero : whole (pos 0) ≡ 0ℚ
 unfolding whole
 whole_zero = cls-zero
-
-pub whole_one : whole (pos 1) ≡ 1ℚ
-unfolding whole
-whole_one = cls-one
 
 pub whole_pos : (n : ℕ) → 0 < n → IsPos (whole (pos n))
 unfolding whole F.whole
