@@ -5,14 +5,11 @@ use lib.IntN.{pos}
 use Rattle.rb_frac.proofs.Sums.{sum, sum_ext}
 use Rattle.rb_frac.proofs.Rational.{ℚ, ◌+ℚ◌, ◌*ℚ◌, neg_ℚ, 0ℚ, 1ℚ, inv, rats, qo, cls, sound, exact, cls-rep, cls-add, cls-mul, cls-neg, cls-quot, null-cls}
 use Rattle.rb_frac.proofs.Rational as Q
+use Rattle.rb_frac.proofs.Hom.{cls_of_sub}
 use Rattle.rb_frac.proofs.Eliminate as E
 use Rattle.rb_frac.specs.Frac as F
 use Rattle.rb_frac.specs.Frac.{Frac, Same}
 use Rattle.rb_frac.specs.System.{Solves, eliminated, HasPivots, HasOneSolution, Solvable}
-
-pub cls-sub : (x y : Frac) → cls (F.sub x y) ≡ cls x +ℚ neg_ℚ (cls y)
-unfolding F.sub F.add
-cls-sub x y = sym (cls-add x (F.neg y)) ∙ ap (λ t. cls x +ℚ t) (sym (cls-neg y))
 
 pub cls-sum : (n : ℕ) (f : ℕ → Frac) → cls (sum F.fracs n f) ≡ sum qo n (λ i. cls (f i))
 unfolding sum
@@ -24,7 +21,7 @@ table m i d = cls (m i d)
 
 cls-eliminated : (n : ℕ) (m : ℕ → ℕ → Frac) → ¬ ((m n n).num ≡ pos 0) → table (eliminated n m) ≡ E.schur n (table m)
 unfolding table eliminated
-cls-eliminated n m p = fun_ext λ i. fun_ext λ d. cls-sub (m i d) (F.mul (F.quot (m i n) (m n n)) (m n d))
+cls-eliminated n m p = fun_ext λ i. fun_ext λ d. cls_of_sub (m i d) (F.mul (F.quot (m i n) (m n n)) (m n d))
     ∙ ap (λ t. cls (m i d) +ℚ neg_ℚ t) (sym (cls-mul (F.quot (m i n) (m n n)) (m n d)) ∙ ap (λ t. t *ℚ cls (m n d)) (cls-quot (m i n) (m n n) p)) ∙ sym (E.schur_is n (λ i d. cls (m i d)) i d)
 
 pivots : (n : ℕ) (m : ℕ → ℕ → Frac) → HasPivots n m → E.Pivots n (table m)

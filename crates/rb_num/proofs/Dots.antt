@@ -10,7 +10,7 @@ use mir.Val.{SFits}
 use Rattle.rb_num.specs.Interval.{Interval, IsInterval, interval, grid, limit}
 use Rattle.rb_num.specs.Dot.{least_product, greatest_product, ProductsFit, DotFits, dot_of, floor_of, ceil_of, int_sum_by}
 use Rattle.rb_num.proofs.Ends.{read}
-use Rattle.rb_num.proofs.Quotients.{floor-high, ceil-low, floor-le-ceil}
+use Rattle.rb_num.proofs.Quotients.{grid_positive, floor-high, ceil-low, floor-le-ceil}
 
 -- what is known of the two ends of a product
 pub record EndsAreOrdered (least greatest : ℤ) : Type 0 where
@@ -92,9 +92,6 @@ pub record DotIs (ps : List (Interval × Interval)) (lo hi : ℤ) : Type 0 where
   pub invariant : IsInterval lo hi
   pub fits : DotFits ps
   pub value : interval lo hi ≡ dot_of ps
-
-grid_positive : 0 < grid
-grid_positive = omega arith
 
 dot_at : (ps : List (Interval × Interval)) (i : ℕ) (low high : ℤ) → SumsAre ps i low high → length ps ≤ i → i ≤ 64
     → DotIs ps (floor_of low grid) (ceil_of high grid)

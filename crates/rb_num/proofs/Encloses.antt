@@ -6,7 +6,7 @@ use Rattle.rb_num.specs.Interval.{Interval, grid, negative_of, sum_of}
 use Rattle.rb_num.specs.Dot.{least_product, greatest_product, int_sum_by, dot_of, floor_of, ceil_of}
 use Rattle.rb_num.proofs.Ring.{at, nat, ◌⊕◌, ◌⊗◌, minus, le_by, le_from, same_by}
 use Rattle.rb_num.proofs.Order.{times_pos, above_corners, below_corners}
-use Rattle.rb_num.proofs.Quotients.{cancel_pos, floor-low, ceil-high}
+use Rattle.rb_num.proofs.Quotients.{grid_positive, cancel_pos, floor-low, ceil-high}
 use Rattle.rb_frac.specs.Frac as F
 use Rattle.rb_frac.specs.Frac.{Frac, fracs}
 use Rattle.rb_frac.specs.Pairs.{dot, PairsRelate}
@@ -97,9 +97,6 @@ ceil_below L N D G p h =
     cancel_pos (N *ℤ pos G) (q *ℤ pos D) G p
     (le_by ((at N ⊗ nat G) ⊗ nat G) ((at q ⊗ nat D) ⊗ nat G)
     (omega (arith, le_from ((at N ⊗ nat G) ⊗ nat G) (at L ⊗ nat D) h, mul-le-mul_left D (le_from (at L) (at q ⊗ nat G) k))))
-
-grid_positive : 0 < grid
-grid_positive = omega arith
 
 pub dot_encloses : (ps : List (Interval × Interval)) (fs : List (Frac × Frac)) → PairsRelate LiesIn fs ps → LiesIn (dot fracs fs) (dot_of ps)
 unfolding dot_of

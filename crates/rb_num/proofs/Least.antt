@@ -13,7 +13,7 @@ use Rattle.rb_num.specs.Least.{Covers, IsLeast, units, HasQuotients, HasSums, Ha
 use Rattle.rb_num.proofs.Order.{times_pos}
 use Rattle.rb_num.proofs.Ring.{at, nat, ◌⊕◌, ◌⊗◌, minus, le_by, le_from}
 use Rattle.rb_num.proofs.Quotient.{EndsAreNonzero, ends_nonzero}
-use Rattle.rb_num.proofs.Quotients.{cancel_pos, floor-low, floor-high, ceil-high}
+use Rattle.rb_num.proofs.Quotients.{grid_positive, cancel_pos, floor-low, floor-high, ceil-high}
 use Rattle.rb_num.proofs.Fractions.{quot_lies}
 
 -- ---- a quotient rounded down is the greatest whole number that is not above it
@@ -53,9 +53,6 @@ above_negative : (w x : ℤ) (G m : ℕ) → 0 < G → ((x *ℤ neg_ℤ (pos G))
 above_negative w x G m p h =
     cancel_pos (neg_ℤ (x *ℤ pos G)) (w *ℤ pos m) G p
     (le_by (minus (at x ⊗ nat G) ⊗ nat G) ((at w ⊗ nat m) ⊗ nat G) (omega (arith, le_from ((at x ⊗ minus (nat G)) ⊗ nat G) (at w ⊗ nat (G * m)) h)))
-
-grid_positive : 0 < grid
-grid_positive = omega arith
 
 -- an interval that has x / y in it has its lower end below the quotient rounded down
 lower : (w : Interval) (x y : ℤ) → (y ≡ pos 0 → ⊥) → LiesIn (F.quot (units x) (units y)) w → w.lo ≤ℤ floor_quotient (x *ℤ pos grid) y

@@ -11,7 +11,7 @@ use mir.Syntax.{w128}
 use Rattle.rb_num.proofs.Ends.{Made, made, read, both}
 use Rattle.rb_num.proofs.Ring.{at, nat, ◌⊗◌, minus, le_by, le_from, same_by}
 use Rattle.rb_num.proofs.Order.{times_pos}
-use Rattle.rb_num.proofs.Quotients.{cancel_pos, floor-low, floor-high, floor-le-ceil, ceil-high}
+use Rattle.rb_num.proofs.Quotients.{grid_positive, cancel_pos, floor-low, floor-high, floor-le-ceil, ceil-high}
 
 -- Q is below each quotient of x by an end of the divisor, so below n e / (d m), where x d is at most n G
 quotient_above : (Q x y1 y2 n : ℤ) (d e m G : ℕ) → 0 < G → (Q *ℤ y1) ≤ℤ (x *ℤ pos G) → (Q *ℤ y2) ≤ℤ (x *ℤ pos G)
@@ -164,9 +164,6 @@ quotient_is_interval a b h f =
 
 positive_product : (m n : ℕ) → 0 < m → 0 < n → 0 < m * n
 positive_product m n p q = omega (arith, mul-le-mul_left m q)
-
-grid_positive : 0 < grid
-grid_positive = omega arith
 
 -- an end below a floor, multiplied out
 below_floor : (Q z : ℤ) (y : ℕ) → 0 < y → Q ≤ℤ floor_of z y → (Q *ℤ pos y) ≤ℤ z

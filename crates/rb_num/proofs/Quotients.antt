@@ -4,7 +4,11 @@ use Rattle.std.proofs.lemmas.Int.{ints, by_lt_z}
 use Rattle.std.proofs.Math.Nat.{mul-le-mul_left, div-add-mod, mod-lt}
 use borrow.Author.Differences.{lt_out}
 use Rattle.rb_num.proofs.Ring.{at, nat, ◌⊕◌, ◌⊗◌, minus, le_by, le_from}
+use Rattle.rb_num.specs.Interval.{grid}
 use Rattle.rb_num.specs.Dot.{floor_of, ceil_of}
+
+pub grid_positive : 0 < grid
+grid_positive = omega arith
 
 pub cancel_pos : (a b : ℤ) (n : ℕ) → 0 < n → (a *ℤ pos n) ≤ℤ (b *ℤ pos n) → a ≤ℤ b
 cancel_pos a b n p h = by_lt_z b a (λ (l : b <ℤ a). absurd (omega (arith, ints, mul-le-mul_left n (lt_out b a l)))) (λ l. l)

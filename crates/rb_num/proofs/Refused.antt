@@ -22,7 +22,7 @@ back false h = absurd h
 pub decides_le : (a b : ℤ) → Decides (le_z a b) (a ≤ℤ b)
 decides_le a b = (λ h. record { le = yes (le_z a b) h }, λ h. back (le_z a b) h.le)
 
-decides_within : (z : ℤ) → Decides (is_within z) (IsWithin z)
+pub decides_within : (z : ℤ) → Decides (is_within z) (IsWithin z)
 decides_within z = Decides-like _ (λ p. record { above = p.0; below = p.1 }) (λ w. (w.above, w.below)) (Decides-and _ _ (decides_le _ _) (decides_le _ _))
 
 pub decides_products : (p : Interval × Interval) → Decides (products_fit p) (ProductsFit p)

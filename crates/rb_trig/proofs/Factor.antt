@@ -18,7 +18,7 @@ use Rattle.rb_frac.proofs.Hom.{cls_of_add, cls_of_mul}
 use Rattle.rb_frac.proofs.Order.{le_trans_ℚ, add_le_ℚ, square_nn}
 use Rattle.rb_frac.proofs.Interval.{bound}
 use Rattle.rb_num.specs.Interval.{Interval, IsInterval, IsWithin, interval, grid, limit}
-use Rattle.rb_num.specs.Dot.{is_within, floor_of, ceil_of}
+use Rattle.rb_num.specs.Dot.{floor_of, ceil_of}
 use Rattle.rb_num.specs.Quotient.{HasZero}
 use Rattle.rb_num.specs.Refusing.{has_zero}
 use Rattle.rb_num.specs.Fraction.{LiesIn}
@@ -26,13 +26,13 @@ use Rattle.rb_num.proofs.Least.{floor_greatest, ceil_least}
 use Rattle.rb_num.proofs.Ends.{read, both}
 use Rattle.rb_num.proofs.Quotient.{negative_read}
 use Rattle.rb_num.proofs.Quotients.{floor-le-ceil, floor-low, ceil-high}
-use Rattle.rb_num.proofs.Refused.{decides_le}
+use Rattle.rb_num.proofs.Refused.{decides_within, decides_zero}
 use Rattle.rb_trig.specs.declared.axis.AxisFault.{AxisFault}
 use Rattle.rb_trig.specs.declared.axis.AxisFault.TheVariants.{Size, ZeroAxis}
 use Rattle.rb_trig.specs.Ends.{squares, SquaresFit}
 use Rattle.rb_trig.specs.Axis.{floor_root, ceil_root, squared_length, factor, IsLength, AxisFits, squares_fit, unit_scale_of, square_sum, MakesUnit}
 use Rattle.rb_trig.proofs.Numbers.{whole, whole-add, whole-mul, whole-le, whole_pos, nonneg_whole, cancel_ℚ, Holds, from_lies}
-use Rattle.rb_trig.proofs.Steps.{decides_zero, squares_hold}
+use Rattle.rb_trig.proofs.Steps.{squares_hold}
 use Rattle.rb_trig.proofs.Sizes.{least_square_nonneg}
 use Rattle.rb_trig.proofs.Read.{held, lo_held, hi_held, Makes, makes, squares_interval}
 use Rattle.rb_trig.proofs.Root.{floor_low, floor_some, ceil_high, floor_le_ceil}
@@ -89,9 +89,6 @@ factor_makes q r s x b y c h er ex eb es ey ec =
     (negative_read s _ (record { above = omega (arith, ints, es ∙ both int_div_euclid ey ec); below = omega (arith, ints, es ∙ both int_div_euclid ey ec) }) (es ∙ both int_div_euclid ey ec))
 
 -- ---- what `unit_scale` answers
-decides_within : (z : ℤ) → Decides (is_within z) (IsWithin z)
-decides_within z = Decides-like _ (λ p. record { above = p.0; below = p.1 }) (λ w. (w.above, w.below)) (Decides-and _ _ (decides_le _ _) (decides_le _ _))
-
 decides_squares : (v : Interval) → Decides (squares_fit v) (SquaresFit v)
 decides_squares v = Decides-like _ (λ p. record { low = p.0; high = p.1 }) (λ s. (s.low, s.high)) (Decides-and _ _ (decides_within _) (decides_within _))
 

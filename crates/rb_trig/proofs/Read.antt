@@ -16,7 +16,7 @@ use Rattle.rb_num.proofs.Quotient.{negative_read, quotient_within}
 use Rattle.rb_num.proofs.Quotients.{floor-le-ceil}
 use Rattle.rb_trig.specs.Ends.{outward, products, squares, clamped, SquaresFit}
 use Rattle.rb_trig.specs.Sine.{scale, step}
-use Rattle.rb_trig.proofs.Steps.{decides_zero}
+use Rattle.rb_num.proofs.Refused.{decides_zero}
 use Rattle.rb_trig.proofs.Sizes.{Within, is_interval, fitting_products, square_nonneg, step_is_interval}
 
 -- z as the code holds it

@@ -13,9 +13,8 @@ use Rattle.rb_num.specs.Dot.{least_product, greatest_product, floor_of, ceil_of}
 use Rattle.rb_num.specs.Quotient.{HasZero}
 use Rattle.rb_num.specs.Refusing.{has_zero}
 use Rattle.rb_num.proofs.Quotients.{floor-low, ceil-high}
-use Rattle.rb_num.proofs.Refused.{decides_le}
+use Rattle.rb_num.proofs.Refused.{decides_zero}
 use Rattle.std.specs.Bool.{Decides}
-use Rattle.std.proofs.lemmas.Bool.Decides.{Decides-and, Decides-like}
 use Rattle.rb_trig.specs.Ends.{outward, products, squares, clamped}
 use Rattle.rb_trig.proofs.Numbers.{whole, whole-add, whole-mul, whole-neg, whole-le, le-whole, whole_zero, whole_pos, cancel_ℚ, Holds}
 
@@ -112,9 +111,6 @@ outward_holds v n q p h = record {
 }
 
 -- ---- squares
-pub decides_zero : (v : Interval) → Decides (has_zero v) (HasZero v)
-decides_zero v = Decides-like _ (λ p. record { low = p.0; high = p.1 }) (λ z. (z.low, z.high)) (Decides-and _ _ (decides_le v.lo (pos 0)) (decides_le (pos 0) v.hi))
-
 module _ (a x : ℚ) where
   σ : ℕ → ℚ
   σ = nth 0ℚ (a ∷ x ∷ [])
