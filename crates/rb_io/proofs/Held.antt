@@ -1,9 +1,9 @@
 -- What names hold after a name was added.
-use Rattle.std.proofs.Common.{◌≡◌, ◌≢◌, ◌∙◌, ℕ, Bool, true, false, List, [], ◌∷◌, cond, map, Contains, string_bytes, refl, sym, suc, arith}
+use Rattle.std.proofs.Common.{◌≡◌, ◌≢◌, ◌∙◌, ℕ, Bool, true, false, List, [], ◌∷◌, Contains, string_bytes, refl, sym, suc, arith, add_comm, add-one}
 use Rattle.std.specs.Str.{bytes_eq}
 use Rattle.std.proofs.lemmas.Slice.Eq.{bytes_eq-Decides}
 use Rattle.rb_io.specs.declared.mem_file.MemFile.{MemFile}
-use Rattle.rb_io.specs.Held.{held_of}
+use Rattle.rb_io.specs.MemFile.{held_of, names_in, place_in}
 
 pub held_of_added : (file : MemFile) (files : List MemFile) (name : List ℕ) → string_bytes file.name ≡ name → held_of (file ∷ files) name ≡ file.held.items
 held_of_added file files name is =
@@ -11,14 +11,15 @@ held_of_added file files name is =
     rw same
 
 pub held_of_others : (file : MemFile) (files : List MemFile) (name : List ℕ) → name ≢ string_bytes file.name → held_of (file ∷ files) name ≡ held_of files name
-held_of_others file files name is = by_test (bytes_eq (string_bytes file.name) name) ((bytes_eq-Decides (string_bytes file.name) name).0)
+held_of_others file files name is =
+    by_test (bytes_eq (string_bytes file.name) name) refl
   where
-    by_test : (b : Bool) → (b ≡ true → string_bytes file.name ≡ name) → cond b file.held.items (held_of files name) ≡ held_of files name
-    by_test true same = absurd (is (sym (same refl)))
-    by_test false same = refl
+    by_test : (b : Bool) → bytes_eq (string_bytes file.name) name ≡ b → held_of (file ∷ files) name ≡ held_of files name
+    by_test true same = absurd (is (sym ((bytes_eq-Decides (string_bytes file.name) name).0 same)))
+    by_test false other = rw (other, add_comm 1 (place_in files name), add-one)
 
 -- a name that was not added holds nothing
-pub held_of_absent : (files : List MemFile) (name : List ℕ) → ¬ (Contains (map (λ file. string_bytes file.name) files) name) → held_of files name ≡ []
+pub held_of_absent : (files : List MemFile) (name : List ℕ) → ¬ (Contains (names_in files) name) → held_of files name ≡ []
 held_of_absent [] name absent = refl
 held_of_absent (file ∷ files) name absent =
     held_of_others file files name (λ same. absent (0, omega arith, sym same))

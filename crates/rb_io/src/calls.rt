@@ -1,7 +1,7 @@
 // Names read whole, and pieces put whole.
 ghost use Rattle.std.specs.Prelude.{◌≡◌, ◌≤◌, ◌<◌, ◌↔◌, ℕ, List, [], ◌++◌, IsTrue, length, IfOk, OnOk, OnErr, IsErrOf, IsOk};
-ghost use Rattle.rb_io.specs.Causes.{HasCause, Rose, counted};
-ghost use Rattle.rb_io.specs.Parts.{PutsPart};
+ghost use Rattle.rb_io.specs.Outside.{HasCause, Rose, counted};
+ghost use Rattle.rb_io.specs.Calls.{PutsPart};
 
 use crate::{Failed, Inputs, Sink};
 use std::alloc::{AllocError, AllocFailed, Global};
@@ -44,8 +44,8 @@ pub enum FileFault {
     Memory,
 }
 
-/// Opens a name and reads it whole, where it holds at most `limit` bytes. After a refusal some of
-/// its bytes may have been taken.
+/// Opens a name and reads it whole, where it holds at most `limit` bytes. It is open afterwards, with
+/// nothing left. After a refusal some of its bytes may have been taken, and no other name is open.
 pub fn read_all<I: Inputs>(
     alloc: Global,
     inputs: &mut I,
@@ -56,6 +56,11 @@ pub fn read_all<I: Inputs>(
     ensures holds { I.holds inputs.new ≡ I.holds inputs.old }
     ensures whole { IsTrue (I.tells inputs.old) → IfOk result (λ bytes. bytes ≡ I.holds inputs.old name.now) }
     ensures end { IsTrue (I.tells inputs.old) → OnOk result (I.left inputs.new ≡ []) }
+    ensures is_open { ¬ (IsErrOf result FileFault.Failed) → IsTrue (I.is_open inputs.new) }
+    ensures opened { IsTrue (I.tells inputs.old) → IsTrue (I.is_open inputs.new) → IsTrue (I.opened inputs.new name.now) }
+    ensures holds_whole { IsTrue (I.tells inputs.old) → IsTrue (I.is_open inputs.new)
+        → I.whole inputs.new ≡ I.holds inputs.old name.now }
+    ensures read_whole { IsTrue (I.tells inputs.old) → IfOk result (λ bytes. bytes ≡ I.whole inputs.new) }
     ensures within { IfOk result (λ bytes. length bytes ≤ limit) }
     ensures given { IfOk result (λ bytes. I.given inputs.new ≡ length bytes) }
     ensures long { IsErrOf result FileFault.TooLong → limit < I.given inputs.new }

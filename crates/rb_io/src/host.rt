@@ -1,4 +1,5 @@
 // The machine's files and streams. They tell no bytes, and count what fails.
+ghost use Rattle.std.proofs.Common.{rules};
 ghost use Rattle.std.specs.Prelude.{◌≡◌, false, ◌||◌, is_some, []};
 
 use crate::{Failed, Inputs, Sink};
@@ -45,6 +46,8 @@ impl<'a, R: Files + Input> Inputs for FileInputs<'a, R> {
 
     ghost opened = { λ _ _. false };
 
+    ghost whole = { λ _. [] };
+
     ghost left = { λ _. [] };
 
     ghost given = { λ s. s.given };
@@ -90,6 +93,12 @@ impl<'a, R: Files + Input> Inputs for FileInputs<'a, R> {
             }
         }
     }
+
+    ghost makes_up = { λ s told. Prim.search rules };
+
+    ghost none_open = { λ s told. Prim.search rules };
+
+    ghost name_open = { λ s name told. Prim.search rules };
 }
 
 /// A stream of the machine that is written to. It tells no bytes: that the stream keeps what was

@@ -12,6 +12,7 @@ mod mem_file;
 mod mem_files;
 mod memory;
 mod outside;
+mod pieces;
 mod tally;
 
 pub use calls::{Bytes, FileFault, put_all, read_all};

@@ -1,7 +1,8 @@
 // Bytes that are kept in memory, which both sinks in memory are made of.
 ghost use Rattle.std.specs.Prelude.{◌≡◌, ◌≤◌, ◌-◌, [], ◌++◌, length, take, IfOk, vec_capacity};
-ghost use Rattle.rb_io.specs.Pieces.{moved};
+ghost use Rattle.rb_io.specs.Pieces.{moved as moved_of};
 
+use crate::pieces::moved;
 use std::alloc::{AllocError, Global};
 
 /// Bytes that are kept, up to a room, which was reserved.
@@ -17,10 +18,12 @@ pub(crate) struct MemBytes {
 }
 
 impl MemBytes {
+    ghost use Rattle.rb_io.specs.MemBytes.{put_of, spare_of, HasSameRoom};
+
     /// With no byte.
     pub(crate) fn new(alloc: Global, room: usize, piece: usize) -> Result<Self, AllocError>
         requires { 1 ≤ piece }
-        ensures empty { IfOk result (λ held. held.kept.items ≡ []) }
+        ensures empty { IfOk result (λ held. put_of held ≡ []) }
         ensures room { IfOk result (λ held. held.room ≡ room) }
         ensures piece { IfOk result (λ held. held.piece ≡ piece) }
     {
@@ -33,12 +36,11 @@ impl MemBytes {
 
     /// Keeps what there is room for, from the front, at most `piece` bytes, and tells how many.
     pub(crate) fn put(&mut self, bytes: &[u8]) -> usize
-        ensures room { self.new.room ≡ self.old.room }
-        ensures piece { self.new.piece ≡ self.old.piece }
-        ensures count { result ≡ moved (length bytes.now) self.old.piece (self.old.room - length self.old.kept.items) }
-        ensures puts { self.new.kept.items ≡ self.old.kept.items ++ take result bytes.now }
+        ensures setup { HasSameRoom self.old self.new }
+        ensures count { result ≡ moved_of (length bytes.now) self.old.piece (spare_of self.old) }
+        ensures puts { put_of self.new ≡ put_of self.old ++ take result bytes.now }
     {
-        let count = bytes.len().min(self.piece).min(self.room - self.kept.len());
+        let count = moved(bytes.len(), self.piece, self.room - self.kept.len());
         self.kept.extend_from_slice(&bytes[..count]).unwrap();
         count
     }

@@ -1,6 +1,6 @@
 // Sinks in memory: they keep what is put, in pieces, up to a room.
 ghost use Rattle.std.specs.Prelude.{◌≡◌, ◌≤◌, ◌<◌, ◌-◌, ◌+◌, [], ◌++◌, true, IsTrue, length, take, IfOk, OnErr, IsOk, IsErr, ◌↔◌, ◌⊎◌, Contains};
-ghost use Rattle.rb_io.specs.Causes.{HasCause, counted};
+ghost use Rattle.rb_io.specs.Outside.{HasCause, counted};
 ghost use Rattle.rb_io.specs.Pieces.{moved};
 
 use crate::mem_bytes::MemBytes;
@@ -16,18 +16,17 @@ pub struct MemSink {
 }
 
 impl MemSink {
-    ghost use Rattle.rb_io.specs.MemSink.{put_of, faults_of, room_of, piece_of, fail_of, calls_of};
+    ghost use Rattle.rb_io.specs.MemBytes.{put_of};
+    ghost use Rattle.rb_io.specs.Tally.{IsUnused};
 
     /// With no byte, and room for `room`. A write takes at most `piece` bytes. Of the calls of
     /// `Sink` on it, counted from 1, those whose numbers are in `fail` are to fail.
     pub fn new(alloc: Global, room: usize, piece: usize, fail: &[u64]) -> Result<Self, AllocError>
         requires { 1 ≤ piece }
-        ensures empty { IfOk result (λ sink. put_of sink ≡ []) }
-        ensures faults { IfOk result (λ sink. faults_of sink ≡ 0) }
-        ensures room { IfOk result (λ sink. room_of sink ≡ room) }
-        ensures piece { IfOk result (λ sink. piece_of sink ≡ piece) }
-        ensures fail { IfOk result (λ sink. fail_of sink ≡ fail.now) }
-        ensures calls { IfOk result (λ sink. calls_of sink ≡ 0) }
+        ensures empty { IfOk result (λ sink. put_of sink.held ≡ []) }
+        ensures room { IfOk result (λ sink. sink.held.room ≡ room) }
+        ensures piece { IfOk result (λ sink. sink.held.piece ≡ piece) }
+        ensures unused { IfOk result (λ sink. IsUnused sink.tally fail.now) }
     {
         Ok(MemSink {
             held: MemBytes::new(alloc, room, piece)?,
@@ -37,36 +36,37 @@ impl MemSink {
 
     /// What was put.
     pub fn bytes(&self) -> &[u8]
-        ensures { result.now ≡ put_of self.now }
+        ensures { result.now ≡ put_of self.now.held }
     {
         self.held.kept.as_slice()
     }
 }
 
 impl Sink for MemSink {
-    ghost use Rattle.rb_io.specs.MemSink.{put_of, faults_of, HasSameSetup, IsFull, spare_of, piece_of, fail_of, calls_of};
+    ghost use Rattle.rb_io.specs.MemBytes.{put_of, spare_of, IsFull, HasSameRoom};
 
     ghost tells = { λ _. true };
 
-    ghost put = { λ s. put_of s };
+    ghost put = { λ s. put_of s.held };
 
-    ghost faults = { λ s. faults_of s };
+    ghost faults = { λ s. s.tally.faults };
 
     fn write(&mut self, bytes: &[u8]) -> Result<usize, Failed>
         ensures bound { IfOk result (λ n. n ≤ length bytes.now) }
         ensures some { 0 < length bytes.now → IfOk result (λ n. 0 < n) }
-        ensures puts { IfOk result (λ n. put_of self.new ≡ put_of self.old ++ take n bytes.now) }
-        ensures stays { OnErr result (put_of self.new ≡ put_of self.old) }
-        ensures cause { HasCause (faults_of self.old) (faults_of self.new) result }
+        ensures puts { IfOk result (λ n. put_of self.new.held ≡ put_of self.old.held ++ take n bytes.now) }
+        ensures stays { OnErr result (put_of self.new.held ≡ put_of self.old.held) }
+        ensures cause { HasCause self.old.tally.faults self.new.tally.faults result }
 
         // The call is counted, and fails exactly where its number is listed or no room is left
         // for a piece that is not empty. It takes all that fits.
-        ensures setup { HasSameSetup self.old self.new }
-        ensures calls { calls_of self.new ≡ counted (calls_of self.old) 1 }
+        ensures setup { HasSameRoom self.old.held self.new.held }
+        ensures fail { self.new.tally.fail.items ≡ self.old.tally.fail.items }
+        ensures calls { self.new.tally.calls ≡ counted self.old.tally.calls 1 }
         ensures fails { IsErr result
-            ↔ (Contains (fail_of self.old) (calls_of self.new) ⊎ (IsFull self.old × (0 < length bytes.now))) }
-        ensures raised { OnErr result (faults_of self.new ≡ counted (faults_of self.old) 1) }
-        ensures count { IfOk result (λ n. n ≡ moved (length bytes.now) (piece_of self.old) (spare_of self.old)) }
+            ↔ (Contains self.old.tally.fail.items self.new.tally.calls ⊎ (IsFull self.old.held × (0 < length bytes.now))) }
+        ensures raised { OnErr result (self.new.tally.faults ≡ counted self.old.tally.faults 1) }
+        ensures count { IfOk result (λ n. n ≡ moved (length bytes.now) self.old.held.piece (spare_of self.old.held)) }
     {
         self.tally.call()?;
         let count = self.held.put(bytes);
@@ -86,15 +86,15 @@ pub struct NoFaultsSink {
 }
 
 impl NoFaultsSink {
-    ghost use Rattle.rb_io.specs.NoFaultsSink.{put_of, is_told, room_of, piece_of};
+    ghost use Rattle.rb_io.specs.MemBytes.{put_of};
 
     /// With no byte, and room for `room`. A write takes at most `piece` bytes.
     pub fn new(alloc: Global, room: usize, piece: usize) -> Result<Self, AllocError>
         requires { 1 ≤ piece }
-        ensures empty { IfOk result (λ sink. put_of sink ≡ []) }
-        ensures tells { IfOk result (λ sink. IsTrue (is_told sink)) }
-        ensures room { IfOk result (λ sink. room_of sink ≡ room) }
-        ensures piece { IfOk result (λ sink. piece_of sink ≡ piece) }
+        ensures empty { IfOk result (λ sink. put_of sink.held ≡ []) }
+        ensures tells { IfOk result (λ sink. IsTrue sink.tells) }
+        ensures room { IfOk result (λ sink. sink.held.room ≡ room) }
+        ensures piece { IfOk result (λ sink. sink.held.piece ≡ piece) }
     {
         Ok(NoFaultsSink {
             held: MemBytes::new(alloc, room, piece)?,
@@ -104,37 +104,37 @@ impl NoFaultsSink {
 
     /// What was kept.
     pub fn bytes(&self) -> &[u8]
-        ensures { result.now ≡ put_of self.now }
+        ensures { result.now ≡ put_of self.now.held }
     {
         self.held.kept.as_slice()
     }
 }
 
 impl Sink for NoFaultsSink {
-    ghost use Rattle.rb_io.specs.NoFaultsSink.{put_of, is_told, HasSameSetup, IsFull, spare_of, piece_of};
+    ghost use Rattle.rb_io.specs.MemBytes.{put_of, spare_of, IsFull, HasSameRoom};
 
-    ghost tells = { λ s. is_told s };
+    ghost tells = { λ s. s.tells };
 
-    ghost put = { λ s. put_of s };
+    ghost put = { λ s. put_of s.held };
 
     ghost faults = { λ _. 0 };
 
     fn write(&mut self, bytes: &[u8]) -> Result<usize, Failed>
-        ensures tells { IsTrue (is_told self.new) → IsTrue (is_told self.old) }
+        ensures tells { IsTrue self.new.tells → IsTrue self.old.tells }
         ensures bound { IfOk result (λ n. n ≤ length bytes.now) }
         ensures some { 0 < length bytes.now → IfOk result (λ n. 0 < n) }
-        ensures puts { IsTrue (is_told self.new) → IfOk result (λ n. put_of self.new ≡ put_of self.old ++ take n bytes.now) }
-        ensures stays { OnErr result (put_of self.new ≡ put_of self.old) }
+        ensures puts { IsTrue self.new.tells → IfOk result (λ n. put_of self.new.held ≡ put_of self.old.held ++ take n bytes.now) }
+        ensures stays { OnErr result (put_of self.new.held ≡ put_of self.old.held) }
         ensures cause { HasCause 0 0 result }
 
         // No call fails. One that finds no room for a piece that is not empty keeps nothing, and no
         // bytes are told from then on.
-        ensures setup { HasSameSetup self.old self.new }
+        ensures setup { HasSameRoom self.old.held self.new.held }
         ensures ok { IsOk result }
-        ensures full { IsFull self.old → 0 < length bytes.now → put_of self.new ≡ put_of self.old }
-        ensures told { IsTrue (is_told self.new) ↔ (IsTrue (is_told self.old) × (IsFull self.old → length bytes.now ≡ 0)) }
-        ensures count { IsTrue (is_told self.new)
-            → IfOk result (λ n. n ≡ moved (length bytes.now) (piece_of self.old) (spare_of self.old)) }
+        ensures full { IsFull self.old.held → 0 < length bytes.now → put_of self.new.held ≡ put_of self.old.held }
+        ensures told { IsTrue self.new.tells ↔ (IsTrue self.old.tells × (IsFull self.old.held → length bytes.now ≡ 0)) }
+        ensures count { IsTrue self.new.tells
+            → IfOk result (λ n. n ≡ moved (length bytes.now) self.old.held.piece (spare_of self.old.held)) }
     {
         let count = self.held.put(bytes);
         if count == 0 && !bytes.is_empty() {

@@ -1,6 +1,6 @@
 // What is read from and written to. The bytes may be untold; the counts are always told.
 ghost use Rattle.std.specs.Prelude.{◌≡◌, ◌≤◌, ◌<◌, ℕ, List, [], ◌++◌, Bool, false, IsTrue, length, take, IfOk, OnOk, OnErr, MatchResult};
-ghost use Rattle.rb_io.specs.Causes.{HasCause, counted};
+ghost use Rattle.rb_io.specs.Outside.{HasCause, MakesUp, counted};
 
 /// A call failed, and the object's count of faults rose.
 #[derive(Clone, Copy, Debug, PartialEq, Eq)]
@@ -8,7 +8,8 @@ pub struct Failed;
 
 /// Named inputs, one of which may be open. Before the first `open` none is.
 pub trait Inputs {
-    /// Whether the bytes are told. Where they are not, `holds`, `opened` and `left` mean nothing.
+    /// Whether the bytes are told. Where they are not, `holds`, `opened`, `whole` and `left` mean
+    /// nothing.
     ghost tells: { Self → Bool };
 
     /// What each name holds.
@@ -19,6 +20,9 @@ pub trait Inputs {
 
     /// Whether a name may be the open one.
     ghost opened: { Self → List ℕ → Bool };
+
+    /// What the open name holds: nothing, where none is open.
+    ghost whole: { Self → List ℕ };
 
     /// What is left of the open name.
     ghost left: { Self → List ℕ };
@@ -36,9 +40,11 @@ pub trait Inputs {
         ensures is_open { OnOk result (IsTrue (is_open self.new)) }
         ensures is_closed { OnErr result (is_open self.new ≡ false) }
         ensures opened { IsTrue (tells self.old) → OnOk result (IsTrue (opened self.new name.now)) }
-        ensures whole { IsTrue (tells self.old) → OnOk result (left self.new ≡ holds self.old name.now) }
+        ensures whole { IsTrue (tells self.old) → OnOk result (whole self.new ≡ holds self.old name.now) }
+        ensures left { IsTrue (tells self.old) → OnOk result (left self.new ≡ holds self.old name.now) }
         ensures closed { IsTrue (tells self.old)
             → OnErr result ((left self.new ≡ []) × ((other : List ℕ) → opened self.new other ≡ false)) }
+        ensures closed_whole { IsTrue (tells self.old) → OnErr result (whole self.new ≡ []) }
         ensures given { given self.new ≡ 0 }
         ensures cause { HasCause (faults self.old) (faults self.new) result };
 
@@ -50,6 +56,7 @@ pub trait Inputs {
         ensures is_open { is_open self.new ≡ is_open self.old }
         ensures none_open { is_open self.old ≡ false → IfOk result (λ n. n ≡ 0) }
         ensures opened { IsTrue (tells self.old) → opened self.new ≡ opened self.old }
+        ensures whole { IsTrue (tells self.old) → whole self.new ≡ whole self.old }
         ensures bound { IfOk result (λ n. n ≤ length buf.new) }
         ensures takes { IsTrue (tells self.old) → IfOk result (λ n. left self.old ≡ take n buf.new ++ left self.new) }
         ensures stays { IsTrue (tells self.old) → OnErr result (left self.new ≡ left self.old) }
@@ -60,6 +67,15 @@ pub trait Inputs {
             (λ n. given self.new ≡ counted (given self.old) n)
             (λ _. given self.new ≡ given self.old) }
         ensures cause { HasCause (faults self.old) (faults self.new) result };
+
+    // At every time what was given and what is left make up what the open name holds.
+    ghost makes_up: { (s : Self) → IsTrue (tells s) → MakesUp (whole s) (given s) (left s) };
+
+    // Where none is open, nothing is held open. An open name holds what this name holds.
+    ghost none_open: { (s : Self) → IsTrue (tells s) → is_open s ≡ false → whole s ≡ [] };
+
+    ghost name_open: { (s : Self) (name : List ℕ) → IsTrue (tells s) → IsTrue (opened s name)
+        → IsTrue (is_open s) × (whole s ≡ holds s name) };
 }
 
 /// A place that bytes are put to.

@@ -1,6 +1,6 @@
 // The count of the calls on an object in memory.
-ghost use Rattle.std.specs.Prelude.{◌≡◌, ◌≤◌, ◌↔◌, [], IfOk, IsErr, Contains, MatchResult};
-ghost use Rattle.rb_io.specs.Causes.{counted};
+ghost use Rattle.std.specs.Prelude.{◌≡◌, ◌≤◌, IfOk};
+ghost use Rattle.rb_io.specs.Outside.{counted};
 
 use crate::Failed;
 use std::alloc::{AllocError, Global};
@@ -14,11 +14,11 @@ pub(crate) struct Tally {
 }
 
 impl Tally {
+    ghost use Rattle.rb_io.specs.Tally.{IsUnused, IsCounted};
+
     /// Before the first call. Those calls whose numbers, from 1, are in `fail` are to fail.
     pub(crate) fn new(alloc: Global, fail: &[u64]) -> Result<Self, AllocError>
-        ensures fail { IfOk result (λ tally. tally.fail.items ≡ fail.now) }
-        ensures calls { IfOk result (λ tally. tally.calls ≡ 0) }
-        ensures faults { IfOk result (λ tally. tally.faults ≡ 0) }
+        ensures unused { IfOk result (λ tally. IsUnused tally fail.now) }
     {
         Ok(Tally {
             fail: fail.to_vec(alloc)?,
@@ -29,13 +29,7 @@ impl Tally {
 
     /// Counts a call, which fails where its number is in `fail`.
     pub(crate) fn call(&mut self) -> Result<(), Failed>
-        ensures fail { self.new.fail.items ≡ self.old.fail.items }
-        ensures calls { self.new.calls ≡ counted self.old.calls 1 }
-        ensures fails { IsErr result ↔ Contains self.old.fail.items self.new.calls }
-        ensures later { self.old.faults ≤ self.new.faults }
-        ensures faults { MatchResult result
-            (λ _. self.new.faults ≡ self.old.faults)
-            (λ _. self.new.faults ≡ counted self.old.faults 1) }
+        ensures counted { IsCounted self.old self.new result }
     {
         self.calls = self.calls.saturating_add(1);
         if self.fail.contains(&self.calls) {

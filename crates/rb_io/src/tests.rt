@@ -1,6 +1,6 @@
 use crate::{
-    Failed, FileFault, FileInputs, Inputs, MemInputs, MemSink, NoFaultsInputs, NoFaultsSink, Sink,
-    StdSink, put_all, read_all,
+    Bytes, Failed, FileFault, FileInputs, Inputs, MemInputs, MemSink, NoFaultsInputs, NoFaultsSink,
+    Sink, StdSink, put_all, read_all,
 };
 use std::fs;
 use std::test::Fail;
@@ -86,5 +86,21 @@ fn a_stream_that_takes_nothing_fails(rt: HostRuntime) -> Result<(), Fail> {
     assert_eq!(rt; put_all(&mut sink, b"de"), Err(Failed));
     assert_eq!(rt; sink.write(b""), Ok(0));
     assert_eq!(rt; room.as_slice(), b"abcd".as_slice());
+    Ok(())
+}
+
+fn is_shared<T: Send + Sync>() {}
+
+#[test]
+fn threads_may_move_and_share_each_type(_rt: HostRuntime) -> Result<(), Fail> {
+    is_shared::<Bytes>();
+    is_shared::<Failed>();
+    is_shared::<FileFault>();
+    is_shared::<MemInputs>();
+    is_shared::<MemSink>();
+    is_shared::<NoFaultsInputs>();
+    is_shared::<NoFaultsSink>();
+    is_shared::<FileInputs<'static, HostRuntime>>();
+    is_shared::<StdSink<Vec<u8>>>();
     Ok(())
 }

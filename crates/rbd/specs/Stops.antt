@@ -1,6 +1,6 @@
 -- What ends a run, and what that says of the counts of faults.
 use Rattle.std.specs.Prelude.{◌≡◌, ◌≤◌, IsTrue, ℕ, Bool, true, false, Result, Ok, Err}
-use Rattle.rb_io.specs.Causes.{Rose}
+use Rattle.rb_io.specs.Outside.{Rose}
 use Rattle.rbd.specs.declared.stop.Stop.{Stop}
 use Rattle.rbd.specs.declared.stop.Stop.TheVariants.{Usage, BadTags, Unbuilt, LongFile, BadHeader, LongLine, LongRows, Input, Output, Memory}
 

@@ -1,7 +1,7 @@
 //! Answering the rows of an input, line by line.
 ghost use Rattle.std.specs.Prelude.{◌≡◌, ◌≤◌, ◌<◌, ◌+◌, ◌^◌, ◌++◌, Bool, false, IsTrue, length, IfOk, IfErr, OnOk, Result, Ok, Err};
-ghost use Rattle.rb_io.specs.Causes.{Rose};
-ghost use Rattle.rb_io.specs.Parts.{PutsPart};
+ghost use Rattle.rb_io.specs.Outside.{Rose};
+ghost use Rattle.rb_io.specs.Calls.{PutsPart};
 ghost use Rattle.rbd.specs.Answer.{line_of, first_line as first_line_of};
 ghost use Rattle.rbd.specs.Course.{answer_of, is_refused, rows_bytes, rows_answer, rows_of, course_of_rows, most_rows};
 ghost use Rattle.rbd.specs.Cut.{lines_of};

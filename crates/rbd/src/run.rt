@@ -1,7 +1,7 @@
 //! A run: the words, the robot's file, and the rows.
 ghost use Rattle.std.specs.Prelude.{◌≡◌, ◌≤◌, ◌<◌, ◌+◌, ◌^◌, ◌↔◌, ◌⊎◌, ℕ, List, [], ◌∷◌, ◌++◌, Bool, IsTrue, length, map, string_bytes, codes, IfOk, Option, None, Result, Ok, Err};
-ghost use Rattle.rb_io.specs.Causes.{Rose};
-ghost use Rattle.rb_io.specs.Parts.{PutsPart};
+ghost use Rattle.rb_io.specs.Outside.{Rose};
+ghost use Rattle.rb_io.specs.Calls.{PutsPart};
 ghost use Rattle.rbd.specs.Course.{course_of, name_of, most_file, most_rows};
 ghost use Rattle.rbd.specs.Ends.{status_of, is_answer, text_of, shown, IsEnded};
 ghost use Rattle.rbd.specs.Headline.{Headline};

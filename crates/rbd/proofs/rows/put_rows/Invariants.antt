@@ -1,5 +1,5 @@
 use Rattle.std.proofs.Common.{length, ◌≡◌, ◌≤◌, ◌+◌, IsTrue, false}
-use Rattle.rb_io.specs.Parts.{Puts}
+use Rattle.rb_io.specs.Calls.{Puts}
 use Rattle.rbd.specs.Course.{rows_bytes, rows_answer}
 use Rattle.rbd.specs.Cut.{lines_of}
 use Rattle.rbd.proofs.rows.put_rows.Given as goal
