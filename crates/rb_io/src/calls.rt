@@ -1,6 +1,6 @@
 // Names read whole, and pieces put whole.
-ghost use Rattle.std.specs.Prelude.{◌≡◌, ◌≤◌, ◌<◌, ◌↔◌, ℕ, List, [], ◌++◌, IsTrue, length, IfOk, OnOk, OnErr, IsErrOf, IsOk};
-ghost use Rattle.rb_io.specs.Outside.{HasCause, Rose, counted};
+ghost use Rattle.std.specs.Prelude.{◌≡◌, ◌≤◌, ◌<◌, ℕ, List, [], ◌++◌, IsTrue, length, IfOk, OnOk, IsErrOf};
+ghost use Rattle.rb_io.specs.Outside.{HasCause, Rose};
 ghost use Rattle.rb_io.specs.Calls.{PutsPart};
 
 use crate::{Failed, Inputs, Sink};

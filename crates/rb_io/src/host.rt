@@ -96,9 +96,9 @@ impl<'a, R: Files + Input> Inputs for FileInputs<'a, R> {
 
     ghost makes_up = { λ s told. Prim.search rules };
 
-    ghost none_open = { λ s told. Prim.search rules };
+    ghost when_closed = { λ s told. Prim.search rules };
 
-    ghost name_open = { λ s name told. Prim.search rules };
+    ghost when_opened = { λ s name told. Prim.search rules };
 }
 
 /// A stream of the machine that is written to. It tells no bytes: that the stream keeps what was

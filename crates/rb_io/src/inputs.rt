@@ -1,5 +1,5 @@
 // Inputs in memory: names with what they hold, given in pieces, with or without calls that fail.
-ghost use Rattle.std.specs.Prelude.{◌≡◌, ◌≤◌, ℕ, List, [], true, false, IsTrue, IsOk, Contains, IfOk, OnOk, OnErr, refl};
+ghost use Rattle.std.specs.Prelude.{◌≡◌, ◌≤◌, true, false, IsOk, Contains, IfOk, OnOk, OnErr};
 ghost use Rattle.std.proofs.Common.{rules};
 ghost use Rattle.std.proofs.lemmas.Grind.{common_steps};
 ghost use Rattle.rb_io.specs.Outside.{HasCause, made_up};
@@ -95,9 +95,9 @@ impl Inputs for MemInputs {
 
     ghost makes_up = { λ s told. made_up s.held.at (whole_of s.held) s.held.in_range };
 
-    ghost none_open = { λ s told closed. Prim.search (rules, common_steps) };
+    ghost when_closed = { λ s told closed. Prim.search (rules, common_steps) };
 
-    ghost name_open = { λ s name told opened. Prim.search (rules, common_steps) };
+    ghost when_opened = { λ s name told opened. Prim.search (rules, common_steps) };
 }
 
 /// Inputs in memory none of whose calls fails: their count of faults is 0.
@@ -172,7 +172,7 @@ impl Inputs for NoFaultsInputs {
 
     ghost makes_up = { λ s told. made_up s.held.at (whole_of s.held) s.held.in_range };
 
-    ghost none_open = { λ s told closed. Prim.search (rules, common_steps) };
+    ghost when_closed = { λ s told closed. Prim.search (rules, common_steps) };
 
-    ghost name_open = { λ s name told opened. Prim.search (rules, common_steps) };
+    ghost when_opened = { λ s name told opened. Prim.search (rules, common_steps) };
 }

@@ -1,7 +1,6 @@
 // Named bytes in memory, which both inputs in memory are made of.
-ghost use Rattle.std.specs.Prelude.{◌≡◌, ◌≢◌, ◌≤◌, ◌<◌, ◌-◌, ◌+◌, ℕ, List, [], ◌∷◌, ◌++◌, None, Some, IsNone, length, take, drop, false, IfOk, OnOk, OnErr, string_bytes, Contains};
+ghost use Rattle.std.specs.Prelude.{◌≡◌, ◌≤◌, ◌<◌, ◌-◌, ◌+◌, [], ◌++◌, None, Some, length, take, drop, false};
 ghost use Rattle.rb_io.specs.MemFile.{held_in, place_in};
-ghost use Rattle.rb_io.specs.Outside.{counted};
 ghost use Rattle.rb_io.specs.Pieces.{moved as moved_of};
 
 use crate::mem_file::MemFile;

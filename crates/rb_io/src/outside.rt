@@ -68,13 +68,14 @@ pub trait Inputs {
             (λ _. given self.new ≡ given self.old) }
         ensures cause { HasCause (faults self.old) (faults self.new) result };
 
-    // At every time what was given and what is left make up what the open name holds.
+    // At every time: what was given and what is left make up what the open name holds.
     ghost makes_up: { (s : Self) → IsTrue (tells s) → MakesUp (whole s) (given s) (left s) };
 
-    // Where none is open, nothing is held open. An open name holds what this name holds.
-    ghost none_open: { (s : Self) → IsTrue (tells s) → is_open s ≡ false → whole s ≡ [] };
+    // Where none is open, nothing is held open.
+    ghost when_closed: { (s : Self) → IsTrue (tells s) → is_open s ≡ false → whole s ≡ [] };
 
-    ghost name_open: { (s : Self) (name : List ℕ) → IsTrue (tells s) → IsTrue (opened s name)
+    // Where a name may be the open one, one is open, and it holds what this name holds.
+    ghost when_opened: { (s : Self) (name : List ℕ) → IsTrue (tells s) → IsTrue (opened s name)
         → IsTrue (is_open s) × (whole s ≡ holds s name) };
 }
 
