@@ -4,7 +4,7 @@ use Rattle.std.specs.Prelude.{◌≡◌, ℕ, ◌==◌, ◌-◌, nat_lt, if◌th
 use Rattle.rb_frac.specs.Ops.{Ops, Signs, signs, V3, vscale}
 use Rattle.rb_frac.specs.Frac.{Frac, fracs}
 use Rattle.rb_frac.specs.Tables.{Table, vector, nothing, unit, identity}
-use Rattle.rb_frac.specs.Spatial.{Motion, Place, Frame, SineCosine, Quaternion}
+use Rattle.rb_frac.specs.Spatial.{Motion, Place, Frame, SineCosine}
 use Rattle.rb_num.specs.Sine.{GoesWith}
 use Rattle.rb_flat.specs.Turns.{about_z, roll_pitch_yaw, about_axis, about_quaternion, placed}
 

@@ -1,7 +1,8 @@
-//! What is known of turns and inertias.
+//! What is known of turns and inertias, and that there is a choice.
 
 ghost use Rattle.rb_frac.specs.Frac.{Frac};
 ghost use Rattle.rb_frac.specs.Spatial.{SineCosine};
+ghost use Rattle.rb_flat.specs.Choice.{HasChoice};
 ghost use Rattle.rb_flat.specs.Laws.{TurnKeepsAxis, QuaternionKeepsVector, TurnsAboutCoordinates, CongruentIsSymmetric, ParallelAxesIsSquare};
 
 /// A turn leaves its axis, and about a unit vector it is the turn about that coordinate axis.
@@ -16,4 +17,10 @@ pub fn turn_law()
 pub fn inertia_law()
     ensures symmetric { CongruentIsSymmetric }
     ensures parallel { ParallelAxesIsSquare }
+{}
+
+/// There is a choice for every robot and state whose brackets are in order, where each joint that
+/// follows another may.
+pub fn choice_law()
+    ensures { HasChoice }
 {}
