@@ -1,2 +1,3 @@
 pub mod Identities
 pub mod Choices
+pub mod Places

@@ -1,15 +1,27 @@
-//! What is known of turns and inertias, and that there is a choice.
+//! What is known of turns, joints and inertias, and that there is a choice.
 
 ghost use Rattle.rb_frac.specs.Frac.{Frac};
 ghost use Rattle.rb_frac.specs.Spatial.{SineCosine};
 ghost use Rattle.rb_flat.specs.Choice.{HasChoice};
-ghost use Rattle.rb_flat.specs.Laws.{TurnKeepsAxis, QuaternionKeepsVector, TurnsAboutCoordinates, CongruentIsSymmetric, ParallelAxesIsSquare};
+ghost use Rattle.rb_flat.specs.Joint.{JointChoice};
+ghost use Rattle.rb_flat.specs.Laws.{TurnKeepsAxis, QuaternionKeepsVector, TurnsAboutCoordinates, FixedIsUnmoved, NeutralIsUnmoved, ContinuousIsRevolute, PlanarIsFree, FreeMovesAll, CongruentIsSymmetric, ParallelAxesIsSquare};
 
 /// A turn leaves its axis, and about a unit vector it is the turn about that coordinate axis.
 pub fn turn_law()
     ensures axis { TurnKeepsAxis }
     ensures quaternion { QuaternionKeepsVector }
     ensures coordinates { (t : SineCosine Frac) → TurnsAboutCoordinates t }
+{}
+
+/// A joint that is fixed or at rest leaves its body in the joint's frame. A continuous joint is the
+/// revolute one of its angle, a planar joint is a free one with two shifts and the turn about z,
+/// and the columns of a free joint are the unit motions, linear first.
+pub fn joint_law()
+    ensures fixed { FixedIsUnmoved }
+    ensures neutral { NeutralIsUnmoved }
+    ensures continuous { (c : JointChoice) → ContinuousIsRevolute c }
+    ensures planar { (c : JointChoice) → PlanarIsFree c }
+    ensures free { FreeMovesAll }
 {}
 
 /// A turned inertia is symmetric, and what the distance of the centre adds to it is, but for the

@@ -6,4 +6,4 @@
 
 mod laws;
 
-pub use laws::{choice_law, inertia_law, turn_law};
+pub use laws::{choice_law, inertia_law, joint_law, turn_law};

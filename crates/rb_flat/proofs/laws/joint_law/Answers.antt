@@ -1,0 +1,17 @@
+use Rattle.rb_flat.proofs.Places.{fixed_is_unmoved, neutral_is_unmoved, continuous_is_revolute, planar_is_free, free_moves_all}
+use Rattle.rb_flat.proofs.laws.joint_law.Goals as goal
+
+pub returns-clause-fixed : goal.returns-clause-fixed
+returns-clause-fixed c = fixed_is_unmoved
+
+pub returns-clause-neutral : goal.returns-clause-neutral
+returns-clause-neutral c = neutral_is_unmoved
+
+pub returns-clause-continuous : goal.returns-clause-continuous
+returns-clause-continuous c = continuous_is_revolute
+
+pub returns-clause-planar : goal.returns-clause-planar
+returns-clause-planar c = planar_is_free
+
+pub returns-clause-free : goal.returns-clause-free
+returns-clause-free c = free_moves_all
