@@ -163,7 +163,7 @@ module _ (robot : RobotBrackets) (state : StateBrackets) where
     unfolding entries leading
     entries_chosen i h None e =
         subst (λ (q : List Frac). AllZip LiesIn q (items_from state.entry (robot.shape.first_entry i) (entry_count (robot.shape.kind i)))) (ap (entries i) (sym e))
-        (items_lie state.entry (robot.shape.first_entry i) (entry_count (robot.shape.kind i)) (λ k l. s.entry i k h l))
+        (items_lie state.entry (robot.shape.first_entry i) (entry_count (robot.shape.kind i)) (λ k l. s.entry i k h e l))
     entries_chosen i h (Some master) e =
         let f = r.fits i master h e in
         let o = r.mimic i master h e in

@@ -1,3 +1,4 @@
 pub mod Identities
 pub mod Choices
 pub mod Places
+pub mod Rates

@@ -17,7 +17,7 @@ use Rattle.rb_num.specs.Sine.{IsBetween, cut, lesser, greater, sine_sum, cosine_
 use Rattle.rb_flat.specs.Turns.{about_axis, about_z, about_quaternion, placed}
 use Rattle.rb_flat.specs.Joint as J
 use Rattle.rb_flat.specs.Joint.{Kind, Fixed, Revolute, Continuous, Prismatic, Planar, Free, joint_turn, joint_shift, JointChoice, IsJointChoice, HasAngle, EntryHasAngle, chosen_frame, chosen_axis, chosen_place, chosen_column}
-use Rattle.rb_flat.specs.Laws.{neutral_entries, FixedIsUnmoved, NeutralIsUnmoved, ContinuousIsRevolute, PlanarIsFree, FreeMovesAll}
+use Rattle.rb_flat.specs.Laws.{ZeroHasOnePair, neutral_entries, FixedIsUnmoved, NeutralIsUnmoved, ContinuousIsRevolute, PlanarIsFree, FreeMovesAll}
 
 -- ---- the angle zero
 abbrev zero_angle : Frac
@@ -43,6 +43,12 @@ greatest_cosine = refl
 between_same : (x y z n : Frac) → Same (lesser x y) n → Same (greater x y) n → IsBetween x y z → Same z n
 between_same x y z n l g h =
     antisym_le z n (le_same z z (greater x y) n (same_refl z) g h.below) (le_same (lesser x y) n z z l (same_refl z) h.above)
+
+pub zero_has_one_pair : ZeroHasOnePair
+zero_has_one_pair t h = record {
+  sin = between_same _ _ t.sin fracs.nul least_sine greatest_sine h.sine;
+  cos = between_same _ _ t.cos fracs.one least_cosine greatest_cosine h.cosine;
+}
 
 -- ---- tables of fractions
 -- an expression at numbers that are the same
@@ -131,8 +137,8 @@ revolute_rest f a t h =
     }
   where
     close : (i : ℕ) → Same (at (numbers f a t) i) (at (numbers f a (record { sin = fracs.nul; cos = fracs.one })) i)
-    close zero = between_same _ _ t.sin fracs.nul least_sine greatest_sine h.sine
-    close (suc zero) = between_same _ _ t.cos fracs.one least_cosine greatest_cosine h.cosine
+    close zero = (zero_has_one_pair t h).sin
+    close (suc zero) = (zero_has_one_pair t h).cos
     close (suc (suc i)) = same_refl (at (of_frame f (of_vector a [])) i)
 
 -- ---- the laws
@@ -183,7 +189,7 @@ planar_is_free c = record {
 }
 
 -- each of six
-six : (P : ℕ → Type 0) → P 0 → P 1 → P 2 → P 3 → P 4 → P 5 → (k : ℕ) → k < 6 → P k
+pub six : (P : ℕ → Type 0) → P 0 → P 1 → P 2 → P 3 → P 4 → P 5 → (k : ℕ) → k < 6 → P k
 six P a b c d e f zero l = a
 six P a b c d e f (suc zero) l = b
 six P a b c d e f (suc (suc zero)) l = c

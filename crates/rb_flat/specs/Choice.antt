@@ -149,9 +149,10 @@ pub record ColumnOrdered (state : StateBrackets) (k : ℕ) : Type 0 where
   pub acceleration : IsOrdered (state.acceleration k)
   pub torque : IsOrdered (state.torque k)
 
+-- the ends of each bracket are in order: of the entries, those of the joints that lead
 pub record IsStateOrdered (shape : Shape) (state : StateBrackets) : Type 0 where
   pub gravity : AreOrdered state.gravity
-  pub entry : (i k : ℕ) → HasBody shape i → k < entry_count (shape.kind i) → IsOrdered (state.entry (shape.first_entry i + k))
+  pub entry : (i k : ℕ) → HasBody shape i → shape.mimic i ≡ None → k < entry_count (shape.kind i) → IsOrdered (state.entry (shape.first_entry i + k))
   pub column : (k : ℕ) → HasColumn shape k → ColumnOrdered state k
 
 -- each robot and state has a choice

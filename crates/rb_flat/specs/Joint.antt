@@ -41,7 +41,7 @@ module _ {A : Type 0} (s : Signs A) where
   abbrev pub around : V3 A → Motion A
   around a = record { lin = nothing s; ang = a }
 
-  -- column k of S, from 0, of a joint with the axis a; no motion where there is none
+  -- column k of S, from 0 and below the count, of a joint with the axis a; a fixed joint has none
   unfoldable pub joint_column : Kind → V3 A → ℕ → Motion A
   joint_column Fixed a k = along (nothing s)
   joint_column Revolute a k = around a

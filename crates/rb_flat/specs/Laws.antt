@@ -3,10 +3,10 @@ use Rattle.std.specs.Prelude.{◌≡◌, ℕ, ◌<◌, ◌==◌, if◌then◌els
 use Rattle.rb_frac.specs.Ops.{V3, signs}
 use Rattle.rb_frac.specs.Frac.{Frac, Same, fracs}
 use Rattle.rb_frac.specs.Tables.{Table, Symmetric, Vectors, Tables, transpose, full, vector, unit, cross_table, table_times, table_product, table_scaled, congruent}
-use Rattle.rb_frac.specs.Spatial.{SineCosine, Quaternion, Place, Places, coordinate}
+use Rattle.rb_frac.specs.Spatial.{SineCosine, Quaternion, Place, SineCosines, Places, coordinate}
 use Rattle.rb_frac.specs.Mechanics.{parallel_axes}
 use Rattle.rb_flat.specs.Turns.{about_x, about_y, about_z, about_axis, about_quaternion}
-use Rattle.rb_flat.specs.Joint.{Kind, Fixed, Revolute, Continuous, Prismatic, Planar, Free, JointChoice, IsJointChoice, chosen_frame, chosen_place, chosen_column}
+use Rattle.rb_flat.specs.Joint.{Kind, Fixed, Revolute, Continuous, Prismatic, Planar, Free, HasAngle, JointChoice, IsJointChoice, chosen_frame, chosen_place, chosen_column}
 
 -- a turn leaves its axis
 abbrev pub TurnKeepsAxis : Type 0
@@ -23,6 +23,10 @@ pub record TurnsAboutCoordinates (t : SineCosine Frac) : Type 0 where
   pub z : Tables Same (about_axis fracs (unit (signs fracs) 2) t) (about_z (signs fracs) t)
 
 -- ---- joints
+-- the angle zero has but one sine and one cosine
+abbrev pub ZeroHasOnePair : Type 0
+ZeroHasOnePair = (t : SineCosine Frac) → HasAngle fracs.nul t → SineCosines Same t (record { sin = fracs.nul; cos = fracs.one })
+
 -- where a body stands that its joint has not moved from the joint's frame
 abbrev pub unmoved : JointChoice → Place Frac
 unmoved c = record { e = transpose (chosen_frame c).rot; r = (chosen_frame c).at }

@@ -4,7 +4,8 @@ ghost use Rattle.rb_frac.specs.Frac.{Frac};
 ghost use Rattle.rb_frac.specs.Spatial.{SineCosine};
 ghost use Rattle.rb_flat.specs.Choice.{HasChoice};
 ghost use Rattle.rb_flat.specs.Joint.{JointChoice};
-ghost use Rattle.rb_flat.specs.Laws.{TurnKeepsAxis, QuaternionKeepsVector, TurnsAboutCoordinates, FixedIsUnmoved, NeutralIsUnmoved, ContinuousIsRevolute, PlanarIsFree, FreeMovesAll, CongruentIsSymmetric, ParallelAxesIsSquare};
+ghost use Rattle.rb_flat.specs.Rates.{ColumnsAreRates};
+ghost use Rattle.rb_flat.specs.Laws.{TurnKeepsAxis, QuaternionKeepsVector, TurnsAboutCoordinates, ZeroHasOnePair, FixedIsUnmoved, NeutralIsUnmoved, ContinuousIsRevolute, PlanarIsFree, FreeMovesAll, CongruentIsSymmetric, ParallelAxesIsSquare};
 
 /// A turn leaves its axis, and about a unit vector it is the turn about that coordinate axis.
 pub fn turn_law()
@@ -13,15 +14,19 @@ pub fn turn_law()
     ensures coordinates { (t : SineCosine Frac) → TurnsAboutCoordinates t }
 {}
 
-/// A joint that is fixed or at rest leaves its body in the joint's frame. A continuous joint is the
-/// revolute one of its angle, a planar joint is a free one with two shifts and the turn about z,
-/// and the columns of a free joint are the unit motions, linear first.
+/// The angle zero has one sine and one cosine alone, 0 and 1. A joint that is fixed or at rest leaves
+/// its body in the joint's frame. A continuous joint is the revolute one of its angle, a planar joint
+/// is a free one with two shifts and the turn about z, and the columns of a free joint are the unit
+/// motions, linear first. The columns of each joint are the rates of its turn and its shift as it
+/// starts from rest.
 pub fn joint_law()
+    ensures zero { ZeroHasOnePair }
     ensures fixed { FixedIsUnmoved }
     ensures neutral { NeutralIsUnmoved }
     ensures continuous { (c : JointChoice) → ContinuousIsRevolute c }
     ensures planar { (c : JointChoice) → PlanarIsFree c }
     ensures free { FreeMovesAll }
+    ensures rates { ColumnsAreRates }
 {}
 
 /// A turned inertia is symmetric, and what the distance of the centre adds to it is, but for the

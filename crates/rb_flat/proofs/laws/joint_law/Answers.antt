@@ -1,5 +1,9 @@
-use Rattle.rb_flat.proofs.Places.{fixed_is_unmoved, neutral_is_unmoved, continuous_is_revolute, planar_is_free, free_moves_all}
+use Rattle.rb_flat.proofs.Places.{zero_has_one_pair, fixed_is_unmoved, neutral_is_unmoved, continuous_is_revolute, planar_is_free, free_moves_all}
+use Rattle.rb_flat.proofs.Rates.{columns_are_rates}
 use Rattle.rb_flat.proofs.laws.joint_law.Goals as goal
+
+pub returns-clause-zero : goal.returns-clause-zero
+returns-clause-zero c = zero_has_one_pair
 
 pub returns-clause-fixed : goal.returns-clause-fixed
 returns-clause-fixed c = fixed_is_unmoved
@@ -15,3 +19,6 @@ returns-clause-planar c = planar_is_free
 
 pub returns-clause-free : goal.returns-clause-free
 returns-clause-free c = free_moves_all
+
+pub returns-clause-rates : goal.returns-clause-rates
+returns-clause-rates c = columns_are_rates
