@@ -1,6 +1,6 @@
 -- The rule of a body at fractions and the body relation, as identities of polynomials.
 use Rattle.std.proofs.Common.{[], ◌∷◌, refl}
-use Rattle.rb_frac.specs.Ops.{V3, vadd, vscale, dot as dot3}
+use Rattle.rb_frac.specs.Ops.{V3, vadd, vscale, vdot}
 use Rattle.rb_frac.specs.Pairs.{dot}
 use Rattle.rb_frac.specs.Frac.{Frac, Same, fracs}
 use Rattle.rb_frac.specs.Tables.{Table, Symmetric, full, upper, table_product, table_sum, table_scaled, outer, congruent}
@@ -20,7 +20,7 @@ use Rattle.rb_body.specs.Laws.{BodyIsRelation}
 
 -- of any rotation
 body-about : (r : Table Frac) (m : Frac) (c : V3 Frac) (j : Symmetric Frac) → BodyInertias Same (body fractions r m c j) (body_of fracs m c (upper (congruent fracs r (full j))))
-unfolding body body_of multiple turned moved product row_mul upper_product dot congruent parallel_axes symmetric_sum outer table_product table_sum table_scaled vadd vscale dot3
+unfolding body body_of multiple turned moved product row_mul upper_product dot congruent parallel_axes symmetric_sum outer table_product table_sum table_scaled vadd vscale vdot
 body-about r m c j =
     let l = m ∷ of_vector c (of_symmetric j (of_rows r [])) in
     let got = body expressions (rows 10) (var 0) (vector 1) (symmetric 4) in

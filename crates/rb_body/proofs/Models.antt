@@ -7,13 +7,13 @@ use Rattle.rb_frac.specs.Ops.{V3}
 use Rattle.rb_frac.specs.Tables.{Symmetric, Vectors}
 use Rattle.rb_frac.specs.Spatial.{Frame, Place, Places, Motions}
 use Rattle.rb_num.specs.declared.interval.NumFault.{NumFault}
-use Rattle.rb_num.specs.Interval.{Interval}
+use Rattle.rb_num.specs.Interval.{Interval, zero_interval}
 use Rattle.rb_num.specs.Fraction.{LiesIn}
 use Rattle.rb_num.specs.Arith.{intervals}
 use Rattle.rb_num.proofs.Bridges.{to_intervals, ok_met}
 use Rattle.rb_result.specs.Steps.{◌>>=◌, told_as}
 use Rattle.rb_result.proofs.Results.{told-ok}
-use Rattle.rb_spatial.specs.Vectors.{none, vector_of}
+use Rattle.rb_spatial.specs.Vectors.{vector_of}
 use Rattle.rb_spatial.specs.Motions.{multiple}
 use Rattle.rb_spatial.proofs.Keep.{multiple_met}
 use Rattle.rb_spatial.proofs.Identities.{multiple-scaled}
@@ -97,7 +97,7 @@ Encloses r = EnclosesJoint r.0 r.1
 fixed_encloses : (f : Frame Interval) (xyz rpy : List Interval) → frame_by (vector_of xyz) (vector_of rpy) ≡ Ok f → Encloses (fixed_by f xyz rpy)
 unfolding fixed_by
 fixed_encloses f xyz rpy e =
-    let j = raw Fixed xyz rpy zeros none in
+    let j = raw Fixed xyz rpy zeros zero_interval in
     encloses_by (Variant.Fixed (record { frame = f })) j refl (λ c h. frame_lies f j e c h)
 
 axial_is : (f : Frame Interval) (a : V3 Interval) (m : Axial) → axial_by f a ≡ Ok m → record { frame = f; axis = a } ≡ m

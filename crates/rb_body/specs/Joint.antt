@@ -3,12 +3,12 @@ use Rattle.std.specs.Prelude.{◌≡◌, ℕ, Result, Ok, Err, IsOk, List}
 use Rattle.std.specs.List.{AllZip}
 use Rattle.rb_frac.specs.Ops.{V3}
 use Rattle.rb_frac.specs.Spatial.{Frame, Place, Places, Motions}
-use Rattle.rb_num.specs.Interval.{Interval}
+use Rattle.rb_num.specs.Interval.{Interval, zero_interval}
 use Rattle.rb_num.specs.Fraction.{LiesIn}
 use Rattle.rb_num.specs.Arith.{intervals}
 use Rattle.rb_num.specs.Quotient.{HasZero}
 use Rattle.rb_result.specs.Steps.{◌>>=◌, told_as}
-use Rattle.rb_spatial.specs.Vectors.{none, vector_of}
+use Rattle.rb_spatial.specs.Vectors.{vector_of}
 use Rattle.rb_spatial.specs.Motions.{multiple}
 use Rattle.rb_trig.specs.Axis.{AxisFits, MakesUnit, squared_length, unit_scale_of}
 use Rattle.rb_flat.specs.Joint.{JointChoice, chosen_place, chosen_column}
@@ -40,7 +40,7 @@ abbrev pub raw : UrdfKind → List Interval → List Interval → List Interval 
 raw kind xyz rpy axis k = record { kind = kind; xyz = xyz; rpy = rpy; axis = axis; factor = k }
 
 unfoldable pub fixed_by : Frame Interval → List Interval → List Interval → AnyJoint × JointRaw
-fixed_by f xyz rpy = (Variant.Fixed (record { frame = f }), raw Fixed xyz rpy zeros none)
+fixed_by f xyz rpy = (Variant.Fixed (record { frame = f }), raw Fixed xyz rpy zeros zero_interval)
 
 unfoldable pub revolute_by : Frame Interval → List Interval → List Interval → List Interval → Answer
 revolute_by f xyz rpy axis =
@@ -78,7 +78,7 @@ pub record HasNumbers (k : UrdfKind) (xyz rpy a : List Interval) (j : JointRaw) 
   pub angles : j.rpy ≡ rpy
   pub axis : HasAxis k → j.axis ≡ a
   pub unit : HasAxis k → MakesUnit (vector_of a).x (vector_of a).y (vector_of a).z j.factor
-  pub zero : ¬ HasAxis k → (j.axis ≡ zeros) × (j.factor ≡ none)
+  pub zero : ¬ HasAxis k → (j.axis ≡ zeros) × (j.factor ≡ zero_interval)
 
 -- the model is of the kind of the joint, and has the frame and the axis of each choice of the joint: so its place and its columns enclose
 -- those of the joint relation

@@ -1,13 +1,13 @@
 -- The places of joints: at rest, and of one kind as those of another.
 use Rattle.std.proofs.Common.{◌≡◌, ℕ, zero, suc, ◌+◌, ◌<◌, ◌==◌, if◌then◌else◌, List, [], ◌∷◌, refl, sym, ap, subst, ◌∙◌, arith}
 use mathlib.Core.Path.{fun_ext}
-use Rattle.rb_frac.specs.Ops.{Ops, V3, signs, vadd, vscale, dot as dot3}
+use Rattle.rb_frac.specs.Ops.{Ops, V3, signs, vadd, vscale, vdot}
 use Rattle.rb_frac.specs.Frac as F
 use Rattle.rb_frac.specs.Frac.{Frac, Same, Le, fracs}
 use Rattle.rb_frac.specs.Tables.{Table, Vectors, Tables, transpose, table_times, table_product, table_sum, table_scaled}
 use Rattle.rb_frac.specs.Spatial.{SineCosine, Frame, Place, Places, coordinate}
 use Rattle.rb_frac.proofs.Reduce.{same_refl, same_trans}
-use Rattle.rb_frac.proofs.Laws.{antisym_le, le_same}
+use Rattle.rb_frac.proofs.FracLaws.{antisym_le, le_same}
 use Rattle.rb_frac.proofs.Ring.{Expr, expr, var, enul, eone, eval}
 use Rattle.rb_frac.proofs.Hom.{hom}
 use Rattle.rb_frac.proofs.Rational.{qo, sound, exact}
@@ -82,7 +82,7 @@ abbrev numbers : Frame Frac → V3 Frac → SineCosine Frac → List Frac
 numbers f a t = of_sine_cosine t (of_frame f (of_vector a []))
 
 fixed_rest : (f : Frame Frac) (a : V3 Frac) (t : SineCosine Frac) (q : List Frac) → Places Same (placed_at fracs Fixed f a t q) (still f)
-unfolding placed joint_turn joint_shift table_product table_times vadd dot3
+unfolding placed joint_turn joint_shift table_product table_times vadd vdot
 fixed_rest f a t q =
     let l = numbers f a t in
     let x = placed_as Fixed [] in
@@ -90,7 +90,7 @@ fixed_rest f a t q =
     record { e = tables l x.e y.e (refl, refl, refl) (refl, refl, refl) (refl, refl, refl); r = vectors l x.r y.r (refl, refl, refl) }
 
 prismatic_rest : (f : Frame Frac) (a : V3 Frac) (t : SineCosine Frac) → Places Same (placed_at fracs Prismatic f a t (neutral_entries Prismatic)) (still f)
-unfolding placed joint_turn joint_shift table_product table_times vadd vscale dot3
+unfolding placed joint_turn joint_shift table_product table_times vadd vscale vdot
 prismatic_rest f a t =
     let l = numbers f a t in
     let x = placed_as Prismatic (enul ∷ []) in
@@ -98,7 +98,7 @@ prismatic_rest f a t =
     record { e = tables l x.e y.e (refl, refl, refl) (refl, refl, refl) (refl, refl, refl); r = vectors l x.r y.r (refl, refl, refl) }
 
 continuous_rest : (f : Frame Frac) (a : V3 Frac) (t : SineCosine Frac) → Places Same (placed_at fracs Continuous f a t (neutral_entries Continuous)) (still f)
-unfolding placed joint_turn joint_shift about_axis table_product table_sum table_scaled table_times vadd vscale dot3
+unfolding placed joint_turn joint_shift about_axis table_product table_sum table_scaled table_times vadd vscale vdot
 continuous_rest f a t =
     let l = numbers f a t in
     let x = placed_as Continuous (eone ∷ enul ∷ []) in
@@ -106,7 +106,7 @@ continuous_rest f a t =
     record { e = tables l x.e y.e (refl, refl, refl) (refl, refl, refl) (refl, refl, refl); r = vectors l x.r y.r (refl, refl, refl) }
 
 planar_rest : (f : Frame Frac) (a : V3 Frac) (t : SineCosine Frac) → Places Same (placed_at fracs Planar f a t (neutral_entries Planar)) (still f)
-unfolding placed joint_turn joint_shift about_z table_product table_times vadd dot3
+unfolding placed joint_turn joint_shift about_z table_product table_times vadd vdot
 planar_rest f a t =
     let l = numbers f a t in
     let x = placed_as Planar (enul ∷ enul ∷ eone ∷ enul ∷ []) in
@@ -114,7 +114,7 @@ planar_rest f a t =
     record { e = tables l x.e y.e (refl, refl, refl) (refl, refl, refl) (refl, refl, refl); r = vectors l x.r y.r (refl, refl, refl) }
 
 free_rest : (f : Frame Frac) (a : V3 Frac) (t : SineCosine Frac) → Places Same (placed_at fracs Free f a t (neutral_entries Free)) (still f)
-unfolding placed joint_turn joint_shift about_quaternion table_product table_sum table_scaled table_times vadd vscale dot3
+unfolding placed joint_turn joint_shift about_quaternion table_product table_sum table_scaled table_times vadd vscale vdot
 free_rest f a t =
     let l = numbers f a t in
     let x = placed_as Free (enul ∷ enul ∷ enul ∷ enul ∷ enul ∷ enul ∷ eone ∷ []) in
@@ -123,7 +123,7 @@ free_rest f a t =
 
 -- the pair of the angle zero is the same as (0, 1)
 revolute_rest : (f : Frame Frac) (a : V3 Frac) (t : SineCosine Frac) → HasAngle fracs.nul t → Places Same (placed_at fracs Revolute f a t (neutral_entries Revolute)) (still f)
-unfolding placed joint_turn joint_shift about_axis table_product table_sum table_scaled table_times vadd vscale dot3
+unfolding placed joint_turn joint_shift about_axis table_product table_sum table_scaled table_times vadd vscale vdot
 revolute_rest f a t h =
     let l = numbers f a t in
     let x = placed_as Revolute (enul ∷ []) in
@@ -172,7 +172,7 @@ abbrev sine_of : {A : Type 0} → Ops A → A → A → A
 sine_of o z w = o.mul (o.add o.one o.one) (o.mul w z)
 
 planar_place : (f : Frame Frac) (a b : V3 Frac) (t : SineCosine Frac) (x y z w : Frac) → Places Same (placed_at fracs Planar f a t (x ∷ y ∷ cosine_of fracs z ∷ sine_of fracs z w ∷ [])) (placed_at fracs Free f b t (x ∷ y ∷ fracs.nul ∷ fracs.nul ∷ fracs.nul ∷ z ∷ w ∷ []))
-unfolding placed joint_turn joint_shift about_z about_quaternion table_product table_sum table_scaled table_times vadd vscale dot3
+unfolding placed joint_turn joint_shift about_z about_quaternion table_product table_sum table_scaled table_times vadd vscale vdot
 planar_place f a b t x y z w =
     let l = x ∷ y ∷ z ∷ w ∷ of_frame f [] in
     let p = placed_at expr Planar (frame 4) (vector 0) (sine_cosine 0) (var 0 ∷ var 1 ∷ cosine_of expr (var 2) ∷ sine_of expr (var 2) (var 3) ∷ []) in

@@ -1,6 +1,6 @@
 -- The columns of each joint are the rates of its turn and its shift.
 use Rattle.std.proofs.Common.{ℕ, zero, suc, ◌<◌, [], ◌∷◌, refl, arith}
-use Rattle.rb_frac.specs.Ops.{V3, signs, vadd, vscale, dot as dot3}
+use Rattle.rb_frac.specs.Ops.{V3, signs, vadd, vscale, vdot}
 use Rattle.rb_frac.specs.Frac.{Frac}
 use Rattle.rb_frac.specs.Tables.{Table, cross_table, table_product, table_sum, table_scaled}
 use Rattle.rb_frac.proofs.Ring.{Expr, expr, var}
@@ -25,7 +25,7 @@ shift_column kind k = vscale expr (started_speed expr kind k (var 0)) (joint_col
 
 -- ---- by kind
 revolute : (a : V3 Frac) (h : Frac) → ColumnIsRate Revolute a 0 h
-unfolding joint_column joint_turn joint_shift about_axis table_product table_sum table_scaled vadd vscale dot3
+unfolding joint_column joint_turn joint_shift about_axis table_product table_sum table_scaled vadd vscale vdot
 revolute a h =
     let l = h ∷ of_vector a [] in
     record {
@@ -34,7 +34,7 @@ revolute a h =
     }
 
 continuous : (a : V3 Frac) (h : Frac) → ColumnIsRate Continuous a 0 h
-unfolding joint_column joint_turn joint_shift about_axis table_product table_sum table_scaled vadd vscale dot3
+unfolding joint_column joint_turn joint_shift about_axis table_product table_sum table_scaled vadd vscale vdot
 continuous a h =
     let l = h ∷ of_vector a [] in
     record {
@@ -74,7 +74,7 @@ planar a (suc (suc zero)) h m =
 planar a (suc (suc (suc k))) h m = absurd (omega arith)
 
 free_0 : (a : V3 Frac) (h : Frac) → ColumnIsRate Free a 0 h
-unfolding joint_column joint_turn joint_shift about_quaternion table_product table_sum table_scaled vadd vscale dot3
+unfolding joint_column joint_turn joint_shift about_quaternion table_product table_sum table_scaled vadd vscale vdot
 free_0 a h =
     let l = h ∷ of_vector a [] in
     record {
@@ -83,7 +83,7 @@ free_0 a h =
     }
 
 free_1 : (a : V3 Frac) (h : Frac) → ColumnIsRate Free a 1 h
-unfolding joint_column joint_turn joint_shift about_quaternion table_product table_sum table_scaled vadd vscale dot3
+unfolding joint_column joint_turn joint_shift about_quaternion table_product table_sum table_scaled vadd vscale vdot
 free_1 a h =
     let l = h ∷ of_vector a [] in
     record {
@@ -92,7 +92,7 @@ free_1 a h =
     }
 
 free_2 : (a : V3 Frac) (h : Frac) → ColumnIsRate Free a 2 h
-unfolding joint_column joint_turn joint_shift about_quaternion table_product table_sum table_scaled vadd vscale dot3
+unfolding joint_column joint_turn joint_shift about_quaternion table_product table_sum table_scaled vadd vscale vdot
 free_2 a h =
     let l = h ∷ of_vector a [] in
     record {
@@ -101,7 +101,7 @@ free_2 a h =
     }
 
 free_3 : (a : V3 Frac) (h : Frac) → ColumnIsRate Free a 3 h
-unfolding joint_column joint_turn joint_shift about_quaternion table_product table_sum table_scaled vadd vscale dot3
+unfolding joint_column joint_turn joint_shift about_quaternion table_product table_sum table_scaled vadd vscale vdot
 free_3 a h =
     let l = h ∷ of_vector a [] in
     record {
@@ -110,7 +110,7 @@ free_3 a h =
     }
 
 free_4 : (a : V3 Frac) (h : Frac) → ColumnIsRate Free a 4 h
-unfolding joint_column joint_turn joint_shift about_quaternion table_product table_sum table_scaled vadd vscale dot3
+unfolding joint_column joint_turn joint_shift about_quaternion table_product table_sum table_scaled vadd vscale vdot
 free_4 a h =
     let l = h ∷ of_vector a [] in
     record {
@@ -119,7 +119,7 @@ free_4 a h =
     }
 
 free_5 : (a : V3 Frac) (h : Frac) → ColumnIsRate Free a 5 h
-unfolding joint_column joint_turn joint_shift about_quaternion table_product table_sum table_scaled vadd vscale dot3
+unfolding joint_column joint_turn joint_shift about_quaternion table_product table_sum table_scaled vadd vscale vdot
 free_5 a h =
     let l = h ∷ of_vector a [] in
     record {

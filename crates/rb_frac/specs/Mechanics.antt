@@ -1,6 +1,6 @@
 -- Motions, forces and bodies by formulas of three-dimensional vectors, over any operations. Featherstone, Rigid Body Dynamics Algorithms,
 -- chapter 2.
-use Rattle.rb_frac.specs.Ops.{Ops, V3, signs, vadd, vneg, vscale, dot, cross}
+use Rattle.rb_frac.specs.Ops.{Ops, V3, signs, vadd, vneg, vscale, vdot, vcross}
 use Rattle.rb_frac.specs.Tables.{Table, Symmetric, transpose, full, upper, identity, table_times, table_sum, table_scaled, outer}
 use Rattle.rb_frac.specs.Spatial.{Spatial, Motion, Force, Place, BodyInertia}
 
@@ -22,46 +22,46 @@ module _ {A : Type 0} (o : Ops A) where
   -- ---- from frame to frame
   -- the parent's motion in the body: (E (lin + ang x r), E ang)
   unfoldable pub in_body : Place A → Motion A → Motion A
-  in_body x m = record { lin = table_times o x.e (vadd o m.lin (cross o m.ang x.r)); ang = table_times o x.e m.ang }
+  in_body x m = record { lin = table_times o x.e (vadd o m.lin (vcross o m.ang x.r)); ang = table_times o x.e m.ang }
 
   -- the body's force in the parent: (E^T lin, E^T ang + r x E^T lin)
   unfoldable pub in_parent : Place A → Force A → Force A
   in_parent x f = record {
     lin = table_times o (transpose x.e) f.lin;
-    ang = vadd o (table_times o (transpose x.e) f.ang) (cross o x.r (table_times o (transpose x.e) f.lin));
+    ang = vadd o (table_times o (transpose x.e) f.ang) (vcross o x.r (table_times o (transpose x.e) f.lin));
   }
 
   -- ---- products
   -- how the motion b changes as it moves along with the motion a
   unfoldable pub motion_product : Motion A → Motion A → Motion A
   motion_product a b = record {
-    lin = vadd o (cross o a.ang b.lin) (cross o a.lin b.ang);
-    ang = cross o a.ang b.ang;
+    lin = vadd o (vcross o a.ang b.lin) (vcross o a.lin b.ang);
+    ang = vcross o a.ang b.ang;
   }
 
   -- how the force f changes as it moves along with the motion a
   unfoldable pub force_product : Motion A → Force A → Force A
   force_product a f = record {
-    lin = cross o a.ang f.lin;
-    ang = vadd o (cross o a.ang f.ang) (cross o a.lin f.lin);
+    lin = vcross o a.ang f.lin;
+    ang = vadd o (vcross o a.ang f.ang) (vcross o a.lin f.lin);
   }
 
   -- the power of the force at the motion
   unfoldable pub power_of : Motion A → Force A → A
-  power_of m f = o.add (dot o m.lin f.lin) (dot o m.ang f.ang)
+  power_of m f = o.add (vdot o m.lin f.lin) (vdot o m.ang f.ang)
 
   -- ---- bodies
   -- the momentum at the motion: (m lin + ang x h, I ang + h x lin)
   unfoldable pub momentum : BodyInertia A → Motion A → Force A
   momentum i v = record {
-    lin = vadd o (vscale o i.mass v.lin) (cross o v.ang i.first);
-    ang = vadd o (table_times o (full i.six) v.ang) (cross o i.first v.lin);
+    lin = vadd o (vscale o i.mass v.lin) (vcross o v.ang i.first);
+    ang = vadd o (table_times o (full i.six) v.ang) (vcross o i.first v.lin);
   }
 
   -- m (c.c 1 - c c^T)
   unfoldable pub parallel_axes : A → V3 A → Table A
   parallel_axes m c =
-      table_scaled o m (table_sum o (table_scaled o (dot o c c) (identity (signs o))) (table_scaled o (o.neg o.one) (outer o c c)))
+      table_scaled o m (table_sum o (table_scaled o (vdot o c c) (identity (signs o))) (table_scaled o (o.neg o.one) (outer o c c)))
 
   unfoldable pub symmetric_sum : Symmetric A → Symmetric A → Symmetric A
   symmetric_sum s t = record {
@@ -99,14 +99,14 @@ module _ {A : Type 0} (o : Ops A) where
   unfoldable pub newton : A → V3 A → Motion A → Motion A → V3 A
   newton m c v a =
       vscale o m
-      (vadd o (vadd o (vadd o a.lin (cross o v.ang v.lin)) (cross o a.ang c)) (cross o v.ang (cross o v.ang c)))
+      (vadd o (vadd o (vadd o a.lin (vcross o v.ang v.lin)) (vcross o a.ang c)) (vcross o v.ang (vcross o v.ang c)))
 
   -- Euler: N = Ic al + w x (Ic w) + c x F
   unfoldable pub euler : A → V3 A → Symmetric A → Motion A → Motion A → V3 A
   euler m c ic v a =
       vadd o
-      (vadd o (table_times o (full ic) a.ang) (cross o v.ang (table_times o (full ic) v.ang)))
-      (cross o c (newton m c v a))
+      (vadd o (table_times o (full ic) a.ang) (vcross o v.ang (table_times o (full ic) v.ang)))
+      (vcross o c (newton m c v a))
 
   -- what the body needs: the force and the moment
   unfoldable pub needed : A → V3 A → Symmetric A → Motion A → Motion A → Force A

@@ -1,7 +1,7 @@
 -- Tables of three rows over any numbers: their entries, their products with vectors and with one another, and tables over two kinds of
 -- numbers that are related entry by entry.
 use Rattle.std.specs.Prelude.{ℕ, ◌==◌, if◌then◌else◌}
-use Rattle.rb_frac.specs.Ops.{Ops, Signs, V3, vadd, vscale, dot}
+use Rattle.rb_frac.specs.Ops.{Ops, Signs, V3, vadd, vscale, vdot}
 
 -- three rows
 pub record Table (A : Type 0) : Type 0 where
@@ -91,16 +91,16 @@ module _ {A : Type 0} (s : Signs A) where
 module _ {A : Type 0} (o : Ops A) where
   -- T v
   unfoldable pub table_times : Table A → V3 A → V3 A
-  table_times t v = vector (dot o t.x v) (dot o t.y v) (dot o t.z v)
+  table_times t v = vector (vdot o t.x v) (vdot o t.y v) (vdot o t.z v)
 
   -- S T
   unfoldable pub table_product : Table A → Table A → Table A
   table_product s t =
       let columns = transpose t in
       record {
-        x = vector (dot o s.x columns.x) (dot o s.x columns.y) (dot o s.x columns.z);
-        y = vector (dot o s.y columns.x) (dot o s.y columns.y) (dot o s.y columns.z);
-        z = vector (dot o s.z columns.x) (dot o s.z columns.y) (dot o s.z columns.z);
+        x = vector (vdot o s.x columns.x) (vdot o s.x columns.y) (vdot o s.x columns.z);
+        y = vector (vdot o s.y columns.x) (vdot o s.y columns.y) (vdot o s.y columns.z);
+        z = vector (vdot o s.z columns.x) (vdot o s.z columns.y) (vdot o s.z columns.z);
       }
 
   unfoldable pub table_sum : Table A → Table A → Table A

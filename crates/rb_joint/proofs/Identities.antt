@@ -1,6 +1,6 @@
 -- Identities between the rules of joints at fractions, each as one of polynomials.
 use Rattle.std.proofs.Common.{[], ◌∷◌, refl}
-use Rattle.rb_frac.specs.Ops.{V3, signs, vadd, vscale, dot as dot3}
+use Rattle.rb_frac.specs.Ops.{V3, signs, vadd, vscale, vdot}
 use Rattle.rb_frac.specs.Pairs.{dot}
 use Rattle.rb_frac.specs.Frac.{Frac, Same, fracs}
 use Rattle.rb_frac.specs.Tables.{nothing, identity, table_times, table_product, table_sum, table_scaled}
@@ -18,7 +18,7 @@ use Rattle.rb_joint.specs.Models.{place_fixed, place_turned, place_along}
 use Rattle.rb_joint.specs.Laws.{RotationIsProduct, TurnIsAboutAxis, TurnIsAboutQuaternion, PlaceIsProduct, ShiftedPlaceTurnsNot}
 
 pub rotation-product : RotationIsProduct
-unfolding rotation rotation_row_x rotation_row_y rotation_row_z dot roll_pitch_yaw table_product about_x about_y about_z dot3
+unfolding rotation rotation_row_x rotation_row_y rotation_row_z dot roll_pitch_yaw table_product about_x about_y about_z vdot
 rotation-product roll pitch yaw =
     tables (of_sine_cosine roll (of_sine_cosine pitch (of_sine_cosine yaw [])))
     (rotation expressions (sine_cosine 0) (sine_cosine 2) (sine_cosine 4))
@@ -26,7 +26,7 @@ rotation-product roll pitch yaw =
     (refl, refl, refl) (refl, refl, refl) (refl, refl, refl)
 
 pub turn_about-axis : TurnIsAboutAxis
-unfolding turn_about axis_products axis_row_x axis_row_y axis_row_z dot about_axis table_product table_sum table_scaled vadd vscale dot3
+unfolding turn_about axis_products axis_row_x axis_row_y axis_row_z dot about_axis table_product table_sum table_scaled vadd vscale vdot
 turn_about-axis a t =
     tables (of_vector a (of_sine_cosine t []))
     (turn_about expressions (vector 0) (axis_products expressions (vector 0)) (sine_cosine 3))
@@ -34,13 +34,13 @@ turn_about-axis a t =
     (refl, refl, refl) (refl, refl, refl) (refl, refl, refl)
 
 pub turn_of-quaternion : TurnIsAboutQuaternion
-unfolding turn_of twice quaternion_row_x quaternion_row_y quaternion_row_z dot about_quaternion table_product table_sum table_scaled vadd vscale dot3
+unfolding turn_of twice quaternion_row_x quaternion_row_y quaternion_row_z dot about_quaternion table_product table_sum table_scaled vadd vscale vdot
 turn_of-quaternion q =
     tables (of_quaternion q []) (turn_of expressions (quaternion 0)) (about_quaternion expr (quaternion 0))
     (refl, refl, refl) (refl, refl, refl) (refl, refl, refl)
 
 pub place_of-placed : PlaceIsProduct
-unfolding place_of product row_mul outside dot placed table_product table_times vadd dot3
+unfolding place_of product row_mul outside dot placed table_product table_times vadd vdot
 place_of-placed f t p =
     let l = of_frame f (of_rows t (of_vector p [])) in
     let got = place_of expressions (frame 0) (rows 12) (vector 21) in
@@ -51,7 +51,7 @@ place_of-placed f t p =
     }
 
 pub place_shifted-placed : ShiftedPlaceTurnsNot
-unfolding place_shifted outside dot placed table_product table_times vadd dot3
+unfolding place_shifted outside dot placed table_product table_times vadd vdot
 place_shifted-placed f p =
     let l = of_frame f (of_vector p []) in
     let got = place_shifted expressions (frame 0) (vector 12) in
@@ -63,7 +63,7 @@ place_shifted-placed f p =
 
 -- ---- the places of the joint models
 pub place_fixed-placed : (f : Frame Frac) → Places Same (place_fixed fractions f) (placed fracs f (identity (signs fracs)) (nothing (signs fracs)))
-unfolding place_fixed place_shifted outside dot placed table_product table_times vadd dot3
+unfolding place_fixed place_shifted outside dot placed table_product table_times vadd vdot
 place_fixed-placed f =
     let l = of_frame f [] in
     let got = place_fixed expressions (frame 0) in
@@ -74,7 +74,7 @@ place_fixed-placed f =
     }
 
 pub place_along-placed : (f : Frame Frac) (a : V3 Frac) (d : Frac) → Places Same (place_along fractions f a d) (placed fracs f (identity (signs fracs)) (vscale fracs d a))
-unfolding place_along multiple place_shifted outside dot placed table_product table_times vadd vscale dot3
+unfolding place_along multiple place_shifted outside dot placed table_product table_times vadd vscale vdot
 place_along-placed f a d =
     let l = of_frame f (of_vector a (d ∷ [])) in
     let got = place_along expressions (frame 0) (vector 12) (var 15) in
@@ -85,7 +85,7 @@ place_along-placed f a d =
     }
 
 pub place_turned-placed : (f : Frame Frac) (a : V3 Frac) (t : SineCosine Frac) → Places Same (place_turned fractions f a t) (placed fracs f (about_axis fracs a t) (nothing (signs fracs)))
-unfolding place_turned place_of product row_mul turn_about axis_products axis_row_x axis_row_y axis_row_z outside dot placed about_axis table_product table_sum table_scaled table_times vadd vscale dot3
+unfolding place_turned place_of product row_mul turn_about axis_products axis_row_x axis_row_y axis_row_z outside dot placed about_axis table_product table_sum table_scaled table_times vadd vscale vdot
 place_turned-placed f a t =
     let l = of_frame f (of_vector a (of_sine_cosine t [])) in
     let got = place_turned expressions (frame 0) (vector 12) (sine_cosine 15) in

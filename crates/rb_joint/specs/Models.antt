@@ -4,10 +4,9 @@ use Rattle.rb_frac.specs.Ops.{V3}
 use Rattle.rb_frac.specs.Tables.{Symmetric, nothing}
 use Rattle.rb_frac.specs.Spatial.{Place, Frame, SineCosine}
 use Rattle.rb_num.specs.declared.interval.NumFault.{NumFault}
-use Rattle.rb_num.specs.Interval.{Interval}
+use Rattle.rb_num.specs.Interval.{Interval, zero_interval}
 use Rattle.rb_num.specs.Arith.{Arith, intervals, signs_of}
 use Rattle.rb_result.specs.Steps.{◌>>=◌, told_as}
-use Rattle.rb_spatial.specs.Vectors.{none}
 use Rattle.rb_spatial.specs.Motions.{multiple}
 use Rattle.rb_joint.specs.declared.faults.JointFault.{JointFault}
 use Rattle.rb_joint.specs.declared.faults.JointFault.TheVariants.{Size}
@@ -30,7 +29,7 @@ module _ (R : Arith) where
 
 -- ---- the places of the joint models, of an entry where they have one
 abbrev pub first : List Interval → Interval
-first [] = none
+first [] = zero_interval
 first (x ∷ xs) = x
 
 unfoldable pub fixed_place : Frame Interval → Result (Place Interval) JointFault
@@ -54,4 +53,4 @@ axial_by f a = axis_products intervals a >>= λ p. Ok (record { frame = f; axis 
 -- the products of an axis, where they are within the limit
 abbrev pub kept : Result (Symmetric Interval) NumFault → Symmetric Interval
 kept (Ok p) = p
-kept (Err e) = record { xx = none; xy = none; xz = none; yy = none; yz = none; zz = none }
+kept (Err e) = record { xx = zero_interval; xy = zero_interval; xz = zero_interval; yy = zero_interval; yz = zero_interval; zz = zero_interval }

@@ -3,10 +3,10 @@ use Rattle.std.proofs.Common.{◌≡◌, ℤ, pos, ◌+ℤ◌, ◌*ℤ◌, List,
 use mathlib.Core.Path.{ap₂}
 use Rattle.std.proofs.lemmas.Int.{ints, clamps}
 use Rattle.rb_num.specs.declared.interval.NumFault.TheVariants.{Size}
-use Rattle.rb_num.specs.Interval.{Interval, IsInterval, IsWithin, EndsFit, interval, sum_of, difference_of, grid}
+use Rattle.rb_num.specs.Interval.{Interval, zero_interval, IsInterval, IsWithin, EndsFit, interval, sum_of, difference_of, grid}
 use Rattle.rb_num.specs.Dot.{least_product, greatest_product, products_fit, all_fit, int_sum_by, dot_of, floor_of, ceil_of, iv_dot}
 use Rattle.rb_num.specs.Refusing.{iv_add, iv_sub}
-use Rattle.rb_num.specs.Laws.{zero, DotLeavesOutZero, ZeroIsNeutral}
+use Rattle.rb_num.specs.Laws.{DotLeavesOutZero, ZeroIsNeutral}
 use Rattle.rb_num.proofs.Refused.{decides_products, added, subtracted}
 
 -- what is known of a pair whose products are all zero
@@ -26,11 +26,11 @@ null_at p a b c d = record {
     within : (z : ℤ) → z ≡ pos 0 → IsWithin z
     within z e = record { above = omega (arith, ints); below = omega (arith, ints) }
 
-first_null : (v : Interval) → IsNull (zero, v)
-first_null v = null_at (zero, v) (omega (arith, ints)) (omega (arith, ints)) (omega (arith, ints)) (omega (arith, ints))
+first_null : (v : Interval) → IsNull (zero_interval, v)
+first_null v = null_at (zero_interval, v) (omega (arith, ints)) (omega (arith, ints)) (omega (arith, ints)) (omega (arith, ints))
 
-second_null : (v : Interval) → IsNull (v, zero)
-second_null v = null_at (v, zero) (omega (arith, ints)) (omega (arith, ints)) (omega (arith, ints)) (omega (arith, ints))
+second_null : (v : Interval) → IsNull (v, zero_interval)
+second_null v = null_at (v, zero_interval) (omega (arith, ints)) (omega (arith, ints)) (omega (arith, ints)) (omega (arith, ints))
 
 -- ---- left out of a list
 fit_without : (p : Interval × Interval) (ps qs : List (Interval × Interval)) → products_fit p ≡ true → all_fit (ps ++ p ∷ qs) ≡ all_fit (ps ++ qs)
@@ -50,21 +50,21 @@ dot_without p ps qs n =
     ∙ ap (λ (h : ℤ). cond (all_fit (ps ++ qs)) (Ok (interval (floor_of (int_sum_by least_product (ps ++ qs)) grid) (ceil_of h grid))) (Err Size)) (sum_without greatest_product p ps qs n.greatest)
 
 -- in the middle
-pub dot-zero_first : (v : Interval) (ps qs : List (Interval × Interval)) → iv_dot (ps ++ (zero, v) ∷ qs) ≡ iv_dot (ps ++ qs)
-dot-zero_first v ps qs = dot_without (zero, v) ps qs (first_null v)
+pub dot-zero_first : (v : Interval) (ps qs : List (Interval × Interval)) → iv_dot (ps ++ (zero_interval, v) ∷ qs) ≡ iv_dot (ps ++ qs)
+dot-zero_first v ps qs = dot_without (zero_interval, v) ps qs (first_null v)
 
-pub dot-zero_second : (v : Interval) (ps qs : List (Interval × Interval)) → iv_dot (ps ++ (v, zero) ∷ qs) ≡ iv_dot (ps ++ qs)
-dot-zero_second v ps qs = dot_without (v, zero) ps qs (second_null v)
+pub dot-zero_second : (v : Interval) (ps qs : List (Interval × Interval)) → iv_dot (ps ++ (v, zero_interval) ∷ qs) ≡ iv_dot (ps ++ qs)
+dot-zero_second v ps qs = dot_without (v, zero_interval) ps qs (second_null v)
 
 -- at the head
-pub dot-head_zero_first : (v : Interval) (qs : List (Interval × Interval)) → iv_dot ((zero, v) ∷ qs) ≡ iv_dot qs
+pub dot-head_zero_first : (v : Interval) (qs : List (Interval × Interval)) → iv_dot ((zero_interval, v) ∷ qs) ≡ iv_dot qs
 dot-head_zero_first v qs = dot-zero_first v [] qs
 
-pub dot-head_zero_second : (v : Interval) (qs : List (Interval × Interval)) → iv_dot ((v, zero) ∷ qs) ≡ iv_dot qs
+pub dot-head_zero_second : (v : Interval) (qs : List (Interval × Interval)) → iv_dot ((v, zero_interval) ∷ qs) ≡ iv_dot qs
 dot-head_zero_second v qs = dot-zero_second v [] qs
 
 -- of no pairs
-pub dot-none : iv_dot [] ≡ Ok zero
+pub dot-none : iv_dot [] ≡ Ok zero_interval
 unfolding iv_dot dot_of all_fit
 dot-none = refl
 
@@ -79,14 +79,14 @@ as_it_is v w h p q = (
   ap₂ interval p q,
 )
 
-pub add-zero_right : (v : Interval) → IsInterval v.lo v.hi → iv_add v zero ≡ Ok v
-add-zero_right v h = sym (added (Ok v) v zero (as_it_is v (sum_of v zero) h (omega (arith, ints)) (omega (arith, ints))) tt)
+pub add-zero_right : (v : Interval) → IsInterval v.lo v.hi → iv_add v zero_interval ≡ Ok v
+add-zero_right v h = sym (added (Ok v) v zero_interval (as_it_is v (sum_of v zero_interval) h (omega (arith, ints)) (omega (arith, ints))) tt)
 
-pub add-zero_left : (v : Interval) → IsInterval v.lo v.hi → iv_add zero v ≡ Ok v
-add-zero_left v h = sym (added (Ok v) zero v (as_it_is v (sum_of zero v) h (omega (arith, ints)) (omega (arith, ints))) tt)
+pub add-zero_left : (v : Interval) → IsInterval v.lo v.hi → iv_add zero_interval v ≡ Ok v
+add-zero_left v h = sym (added (Ok v) zero_interval v (as_it_is v (sum_of zero_interval v) h (omega (arith, ints)) (omega (arith, ints))) tt)
 
-pub sub-zero : (v : Interval) → IsInterval v.lo v.hi → iv_sub v zero ≡ Ok v
-sub-zero v h = sym (subtracted (Ok v) v zero (as_it_is v (difference_of v zero) h (omega (arith, ints)) (omega (arith, ints))) tt)
+pub sub-zero : (v : Interval) → IsInterval v.lo v.hi → iv_sub v zero_interval ≡ Ok v
+sub-zero v h = sym (subtracted (Ok v) v zero_interval (as_it_is v (difference_of v zero_interval) h (omega (arith, ints)) (omega (arith, ints))) tt)
 
 -- ---- as the laws say it
 pub leaves_out_zero : DotLeavesOutZero

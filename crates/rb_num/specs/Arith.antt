@@ -1,9 +1,9 @@
 -- The numbers that a rule is over: intervals, whose operations may be refused, or fractions, which are exact. A rule is defined once over
 -- `Arith`, and read at `intervals` for the value that the code computes, and at `fractions` for the value that it encloses.
-use Rattle.std.specs.Prelude.{pos, List, Result, Ok}
+use Rattle.std.specs.Prelude.{List, Result, Ok}
 use Rattle.rb_result.specs.Steps.{◌>>=◌}
 use Rattle.rb_num.specs.declared.interval.NumFault.{NumFault}
-use Rattle.rb_num.specs.Interval.{Interval, interval, negative_of, grid}
+use Rattle.rb_num.specs.Interval.{Interval, zero_interval, one_interval, negative_of}
 use Rattle.rb_num.specs.Dot.{iv_dot}
 use Rattle.rb_num.specs.Refusing.{iv_add, iv_sub, iv_div}
 use Rattle.rb_frac.specs.Ops.{Ops, Signs}
@@ -39,8 +39,8 @@ intervals = record {
   neg = negative_of;
   add = iv_add;
   sub = iv_sub;
-  one = interval (pos grid) (pos grid);
-  zero = interval (pos 0) (pos 0);
+  one = one_interval;
+  zero = zero_interval;
   ret = λ x. Ok x;
   bind = λ r f. r >>= f;
 }

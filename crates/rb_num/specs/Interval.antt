@@ -34,6 +34,13 @@ pub record EndsFit (v : Interval) : Type 0 where
 abbrev pub interval : ℤ → ℤ → Interval
 interval a b = record { lo = a; hi = b }
 
+-- the numbers zero and one, alone
+abbrev pub zero_interval : Interval
+zero_interval = interval (pos 0) (pos 0)
+
+abbrev pub one_interval : Interval
+one_interval = interval (pos grid) (pos grid)
+
 -- the least sum, and the greatest
 abbrev pub sum_of : Interval → Interval → Interval
 sum_of a b = interval (a.lo +ℤ b.lo) (a.hi +ℤ b.hi)

@@ -1,8 +1,8 @@
 -- Laws of intervals, and of the sines and the cosines of fractions.
-use Rattle.std.specs.Prelude.{pos, true, List, [], ◌∷◌, ◌++◌, ◌≡◌, ◌↔◌, Ok}
+use Rattle.std.specs.Prelude.{true, List, [], ◌∷◌, ◌++◌, ◌≡◌, ◌↔◌, Ok}
 use Rattle.rb_frac.specs.Frac.{Frac, Same, Le}
 use Rattle.rb_frac.specs.Laws.{one}
-use Rattle.rb_num.specs.Interval.{Interval, IsInterval, interval}
+use Rattle.rb_num.specs.Interval.{Interval, IsInterval, zero_interval}
 use Rattle.rb_num.specs.Dot.{iv_dot}
 use Rattle.rb_num.specs.Refusing.{iv_add, iv_sub}
 use Rattle.rb_num.specs.Hull.{Meet, do_meet}
@@ -13,21 +13,17 @@ use Rattle.rb_num.specs.Sine.{minus_one, cut, GoesWith}
 abbrev pub LiesInKeepsSame : Type 0
 LiesInKeepsSame = (x y : Frac) (v : Interval) → Same x y → LiesIn x v → LiesIn y v
 
--- the number zero, alone
-abbrev pub zero : Interval
-zero = interval (pos 0) (pos 0)
-
 -- a pair with zero may be left out of a sum of products, which is refused for the others alone; the sum of none is zero
 pub record DotLeavesOutZero : Type 0 where
-  pub none : iv_dot [] ≡ Ok zero
-  pub first : (v : Interval) (ps qs : List (Interval × Interval)) → iv_dot (ps ++ (zero, v) ∷ qs) ≡ iv_dot (ps ++ qs)
-  pub second : (v : Interval) (ps qs : List (Interval × Interval)) → iv_dot (ps ++ (v, zero) ∷ qs) ≡ iv_dot (ps ++ qs)
+  pub none : iv_dot [] ≡ Ok zero_interval
+  pub first : (v : Interval) (ps qs : List (Interval × Interval)) → iv_dot (ps ++ (zero_interval, v) ∷ qs) ≡ iv_dot (ps ++ qs)
+  pub second : (v : Interval) (ps qs : List (Interval × Interval)) → iv_dot (ps ++ (v, zero_interval) ∷ qs) ≡ iv_dot (ps ++ qs)
 
 -- zero, added or taken away, changes nothing and is not refused
 pub record ZeroIsNeutral : Type 0 where
-  pub add_right : (v : Interval) → IsInterval v.lo v.hi → iv_add v zero ≡ Ok v
-  pub add_left : (v : Interval) → IsInterval v.lo v.hi → iv_add zero v ≡ Ok v
-  pub sub : (v : Interval) → IsInterval v.lo v.hi → iv_sub v zero ≡ Ok v
+  pub add_right : (v : Interval) → IsInterval v.lo v.hi → iv_add v zero_interval ≡ Ok v
+  pub add_left : (v : Interval) → IsInterval v.lo v.hi → iv_add zero_interval v ≡ Ok v
+  pub sub : (v : Interval) → IsInterval v.lo v.hi → iv_sub v zero_interval ≡ Ok v
 
 -- the test is true exactly where some fraction lies in both
 abbrev pub DoMeetDecides : Type 0

@@ -1,6 +1,6 @@
 -- Identities between the rules at fractions, each as one of polynomials.
 use Rattle.std.proofs.Common.{[], ◌∷◌, refl}
-use Rattle.rb_frac.specs.Ops.{vadd, vneg, vscale, dot as dot3, cross as cross_of_vectors}
+use Rattle.rb_frac.specs.Ops.{vadd, vneg, vscale, vdot, vcross}
 use Rattle.rb_frac.specs.Pairs.{dot}
 use Rattle.rb_frac.specs.Frac.{Frac, Same, fracs, neg}
 use Rattle.rb_frac.proofs.Ring.{Expr, expr, var}
@@ -18,22 +18,22 @@ use Rattle.rb_frac.proofs.Variables.{vector, symmetric, spatial, place, body, in
 
 -- ---- formulas
 pub apply-in_body : ApplyIsInBody
-unfolding apply plus_cross mul dot in_body table_times vadd dot3 cross_of_vectors
+unfolding apply plus_cross mul dot in_body table_times vadd vdot vcross
 apply-in_body x m =
     identity (of_place x (of_spatial m [])) (apply expressions (place 0) (spatial 12)) (in_body expr (place 0) (spatial 12)) (refl, refl, refl) (refl, refl, refl)
 
 pub apply_dual-in_parent : ApplyDualIsInParent
-unfolding apply_dual plus_cross mul dot in_parent table_times vadd dot3 cross_of_vectors
+unfolding apply_dual plus_cross mul dot in_parent table_times vadd vdot vcross
 apply_dual-in_parent x f =
     identity (of_place x (of_spatial f [])) (apply_dual expressions (place 0) (spatial 12)) (in_parent expr (place 0) (spatial 12)) (refl, refl, refl) (refl, refl, refl)
 
 pub cross-motion_product : CrossIsMotionProduct
-unfolding cross cross3 cross_twice dot motion_product vadd cross_of_vectors
+unfolding cross cross3 cross_twice dot motion_product vadd vcross
 cross-motion_product a b =
     identity (of_spatial a (of_spatial b [])) (cross expressions (spatial 0) (spatial 6)) (motion_product expr (spatial 0) (spatial 6)) (refl, refl, refl) (refl, refl, refl)
 
 pub cross_dual-force_product : CrossDualIsForceProduct
-unfolding cross_dual cross3 cross_twice dot force_product vadd cross_of_vectors
+unfolding cross_dual cross3 cross_twice dot force_product vadd vcross
 cross_dual-force_product a f =
     identity (of_spatial a (of_spatial f [])) (cross_dual expressions (spatial 0) (spatial 6)) (force_product expr (spatial 0) (spatial 6)) (refl, refl, refl) (refl, refl, refl)
 
@@ -43,12 +43,12 @@ multiple-scaled k v =
     vectors (k ∷ of_vector v []) (multiple expressions (var 0) (vector 1)) (vscale expr (var 0) (vector 1)) (refl, refl, refl)
 
 pub power-sum : PowerIsSum
-unfolding power dot power_of dot3
+unfolding power dot power_of vdot
 power-sum m f =
     frac_ring (at (of_spatial m (of_spatial f []))) (power expressions (spatial 0) (spatial 6)) (power_of expr (spatial 0) (spatial 6)) refl
 
 pub table-momentum : TableGivesMomentum
-unfolding table times mul_both dot momentum table_times vadd vscale dot3 cross_of_vectors
+unfolding table times mul_both dot momentum table_times vadd vscale vdot vcross
 table-momentum i v =
     identity (of_body i (of_spatial v [])) (times expressions (table expressions (body 0)) (spatial 10)) (momentum expr (body 0) (spatial 10)) (refl, refl, refl) (refl, refl, refl)
 
@@ -92,7 +92,7 @@ carry-congruence x i m =
     (refl, refl, refl) (refl, refl, refl)
 
 pub newton-euler : NewtonEuler
-unfolding table times mul_both cross_dual cross3 cross_twice dot plus needed newton euler body_of parallel_axes symmetric_sum table_times table_sum table_scaled outer vadd vscale dot3 cross_of_vectors
+unfolding table times mul_both cross_dual cross3 cross_twice dot plus needed newton euler body_of parallel_axes symmetric_sum table_times table_sum table_scaled outer vadd vscale vdot vcross
 newton-euler m c ic v a =
     let i = table expressions (body_of expr (var 0) (vector 1) (symmetric 4)) in
     identity (m ∷ of_vector c (of_symmetric ic (of_spatial v (of_spatial a []))))

@@ -1,16 +1,13 @@
 -- Vectors and tables of intervals, and the lists that the code keeps them in.
-use Rattle.std.specs.Prelude.{◌≡◌, pos, List, [], ◌∷◌, length, refl}
+use Rattle.std.specs.Prelude.{◌≡◌, List, [], ◌∷◌, length, refl}
 use Rattle.std.proofs.Common.{arith}
 use Rattle.rb_frac.specs.Ops.{V3}
 use Rattle.rb_frac.specs.Tables.{Table, Symmetric}
-use Rattle.rb_num.specs.Interval.{Interval, interval}
-
-abbrev pub none : Interval
-none = interval (pos 0) (pos 0)
+use Rattle.rb_num.specs.Interval.{Interval, zero_interval}
 
 abbrev pub vector_of : List Interval → V3 Interval
 vector_of (x ∷ (y ∷ (z ∷ _))) = record { x = x; y = y; z = z }
-vector_of _ = record { x = none; y = none; z = none }
+vector_of _ = record { x = zero_interval; y = zero_interval; z = zero_interval }
 
 abbrev pub list_of : V3 Interval → List Interval
 list_of v = v.x ∷ v.y ∷ v.z ∷ []
@@ -25,7 +22,7 @@ lists_of t = list_of t.x ∷ list_of t.y ∷ list_of t.z ∷ []
 -- in the order of the rows
 abbrev pub symmetric_of : List Interval → Symmetric Interval
 symmetric_of (xx ∷ (xy ∷ (xz ∷ (yy ∷ (yz ∷ (zz ∷ _)))))) = record { xx = xx; xy = xy; xz = xz; yy = yy; yz = yz; zz = zz }
-symmetric_of _ = record { xx = none; xy = none; xz = none; yy = none; yz = none; zz = none }
+symmetric_of _ = record { xx = zero_interval; xy = zero_interval; xz = zero_interval; yy = zero_interval; yz = zero_interval; zz = zero_interval }
 
 abbrev pub six_of : Symmetric Interval → List Interval
 six_of s = s.xx ∷ s.xy ∷ s.xz ∷ s.yy ∷ s.yz ∷ s.zz ∷ []

@@ -4,7 +4,7 @@ use Rattle.std.specs.List.{slice_get}
 use Rattle.std.proofs.lemmas.List.{length-replicate}
 use Rattle.std.proofs.lemmas.Option.{slice_get-get_or, slice_get_within, get_or_from_slice_get}
 use Rattle.rb_frac.specs.Frac.{Frac, fracs, whole}
-use Rattle.rb_frac.specs.Ops.{V3, vadd, vneg, vscale, dot}
+use Rattle.rb_frac.specs.Ops.{V3, vadd, vneg, vscale, vdot}
 use Rattle.rb_frac.proofs.Reduce.{same_sym}
 use Rattle.rb_num.specs.declared.interval.NumFault.{NumFault}
 use Rattle.rb_num.specs.Interval.{Interval}
@@ -229,8 +229,8 @@ module _ (chain : Links) (joints : List Interval) (choice : Choice) (s : Solutio
   torque_lies : (i : ℕ) (w : View) (t : Interval) → 2 ≤ i → i ≤ bodies chain → Vectors LiesIn (s.force i) (get_or w.forces i no_vector) → torque_rule chain i w ≡ Ok t → LiesIn (s.torque i) t
   unfolding torque_rule
   torque_lies i w t low high here e =
-      lies_same (dot fracs (direction chain i) (s.force i)) (s.torque i) t
-      (same_sym (s.torque i) (dot fracs (direction chain i) (s.force i)) (solves.column i low high))
+      lies_same (vdot fracs (direction chain i) (s.force i)) (s.torque i) t
+      (same_sym (s.torque i) (vdot fracs (direction chain i) (s.force i)) (solves.column i low high))
       (lies_same _ _ t (torque_is (direction chain i) (s.force i))
       (ok_met (unnamed _ _ t e) (torque_met to_intervals (direction_lies chain i) here)))
 

@@ -1,7 +1,7 @@
 -- The equations of a chain have exactly one solution: motions from the world down, forces from the last body up.
 use Rattle.std.proofs.Common.{◌≡◌, ℕ, zero, suc, ◌+◌, ◌-◌, ◌<◌, ◌≤◌, ◌∙◌, ap, subst, arith}
 use Rattle.rb_frac.specs.Frac.{Frac, Same, fracs}
-use Rattle.rb_frac.specs.Ops.{V3, vadd, vneg, vscale, dot}
+use Rattle.rb_frac.specs.Ops.{V3, vadd, vneg, vscale, vdot}
 use Rattle.rb_frac.proofs.Reduce.{same_refl, same_sym, same_trans}
 use Rattle.rbd.specs.Chain.{Links}
 use Rattle.rbd.specs.Flat.{SameVector, direction, bodies, Choice, Solution, Solves, SameSolution}
@@ -29,7 +29,7 @@ module _ (chain : Links) (choice : Choice) where
     acceleration = motion_of;
     needed = need_of;
     force = force_of;
-    torque = λ i. dot fracs (direction chain i) (force_of i);
+    torque = λ i. vdot fracs (direction chain i) (force_of i);
   }
 
   motion_solves : (i : ℕ) → 1 ≤ i → SameVector (motion_of i) (vadd fracs (motion_of (i - 1)) (vscale fracs (choice.joint i) (direction chain i)))
@@ -59,7 +59,7 @@ module _ (chain : Links) (choice : Choice) where
     newton = λ i low high. vectors_refl (need_of i);
     balance = λ i low high. force_solves i high;
     last = last_solves;
-    column = λ i low high. same_refl (dot fracs (direction chain i) (force_of i));
+    column = λ i low high. same_refl (vdot fracs (direction chain i) (force_of i));
   }
 
   -- ---- any two solutions agree
@@ -96,10 +96,10 @@ module _ (chain : Links) (choice : Choice) where
 
     same_torque : (i : ℕ) → 2 ≤ i → i ≤ bodies chain → Same (s.torque i) (t.torque i)
     same_torque i low high =
-        same_trans (s.torque i) (dot fracs (direction chain i) (s.force i)) (t.torque i) (hs.column i low high)
-        (same_trans (dot fracs (direction chain i) (s.force i)) (dot fracs (direction chain i) (t.force i)) (t.torque i)
+        same_trans (s.torque i) (vdot fracs (direction chain i) (s.force i)) (t.torque i) (hs.column i low high)
+        (same_trans (vdot fracs (direction chain i) (s.force i)) (vdot fracs (direction chain i) (t.force i)) (t.torque i)
         (dot_same (direction chain i) (same_force i (omega arith) high))
-        (same_sym (t.torque i) (dot fracs (direction chain i) (t.force i)) (ht.column i low high)))
+        (same_sym (t.torque i) (vdot fracs (direction chain i) (t.force i)) (ht.column i low high)))
 
     pub solutions_agree : SameSolution chain s t
     solutions_agree = record { acceleration = same_motion; needed = same_need; force = same_force; torque = same_torque }

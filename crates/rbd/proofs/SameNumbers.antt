@@ -3,7 +3,7 @@ use Rattle.std.proofs.Common.{◌≡◌, ℕ, ◌<◌, pos, List, [], ◌∷◌,
 use mathlib.Core.Path.{ap₂}
 use Rattle.rb_frac.specs.Frac as F
 use Rattle.rb_frac.specs.Frac.{Frac, Same, fracs, whole}
-use Rattle.rb_frac.specs.Ops.{V3, vadd, vscale, dot}
+use Rattle.rb_frac.specs.Ops.{V3, vadd, vscale, vdot}
 use Rattle.rb_frac.specs.Pairs as Pairs
 use Rattle.rb_frac.proofs.Reduce.{same_refl, same_sym, same_trans}
 use Rattle.rb_frac.proofs.Rational.{ℚ, ◌+ℚ◌, ◌*ℚ◌, ◌≤ℚ◌, sound, exact}
@@ -64,8 +64,8 @@ vscale_same m {u} {v} h =
       z = same_mul m u.z m v.z (same_refl m) h.z;
     }
 
-pub dot_same : (s : V3 Frac) {u v : V3 Frac} → SameVector u v → Same (dot fracs s u) (dot fracs s v)
-unfolding dot
+pub dot_same : (s : V3 Frac) {u v : V3 Frac} → SameVector u v → Same (vdot fracs s u) (vdot fracs s v)
+unfolding vdot
 dot_same s {u} {v} h =
     same_add _ _ _ _
     (same_add _ _ _ _ (same_mul s.x u.x s.x v.x (same_refl s.x) h.x) (same_mul s.y u.y s.y v.y (same_refl s.y) h.y))
@@ -117,8 +117,8 @@ joint_force_is b f =
     let r = vadd expr (v3 0 1 2) (v3 3 4 5) in
     record { x = frac_ring ρ l.x r.x refl; y = frac_ring ρ l.y r.y refl; z = frac_ring ρ l.z r.z refl }
 
-pub torque_is : (s f : V3 Frac) → Same (torque fractions s f) (dot fracs s f)
-unfolding values torque dot Pairs.dot
+pub torque_is : (s f : V3 Frac) → Same (torque fractions s f) (vdot fracs s f)
+unfolding values torque vdot Pairs.dot
 torque_is s f =
     frac_ring (values (s.x ∷ s.y ∷ s.z ∷ f.x ∷ f.y ∷ f.z ∷ []))
-    (torque expressions (v3 0 1 2) (v3 3 4 5)) (dot expr (v3 0 1 2) (v3 3 4 5)) refl
+    (torque expressions (v3 0 1 2) (v3 3 4 5)) (vdot expr (v3 0 1 2) (v3 3 4 5)) refl

@@ -2,7 +2,7 @@
 -- chapters 2, 3 and 5, for links that do not turn). The world is number 0, the base is body 1, and body i - 1 bears body i.
 use Rattle.std.specs.Prelude.{◌≡◌, ◌≤◌, ◌<◌, ◌+◌, ◌-◌, ℕ, zero, suc, pos, negsuc, List, length, slice_get, Option, Some, None}
 use Rattle.rb_frac.specs.Frac.{Frac, Same, fracs, whole}
-use Rattle.rb_frac.specs.Ops.{V3, vadd, vneg, vscale, dot}
+use Rattle.rb_frac.specs.Ops.{V3, vadd, vneg, vscale, vdot}
 use Rattle.rb_num.specs.Interval.{Interval, interval}
 use Rattle.rb_num.specs.Fraction.{LiesIn}
 use Rattle.rbd.specs.declared.chain.Slider.{Slider}
@@ -90,7 +90,7 @@ pub record Solves (chain : Links) (choice : Choice) (s : Solution) : Type 0 wher
   pub balance : (i : ℕ) → 1 ≤ i → i < bodies chain → SameVector (s.force i) (vadd fracs (s.needed i) (s.force (i + 1)))
   pub last : SameVector (s.force (bodies chain)) (s.needed (bodies chain))
   -- the torque is the joint's force along its axis
-  pub column : (i : ℕ) → 2 ≤ i → i ≤ bodies chain → Same (s.torque i) (dot fracs (direction chain i) (s.force i))
+  pub column : (i : ℕ) → 2 ≤ i → i ≤ bodies chain → Same (s.torque i) (vdot fracs (direction chain i) (s.force i))
 
 -- every unknown is the same number
 pub record SameSolution (chain : Links) (s t : Solution) : Type 0 where
