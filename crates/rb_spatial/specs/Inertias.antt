@@ -1,5 +1,5 @@
 -- The rules of inertias, over any numbers. Featherstone, Rigid Body Dynamics Algorithms, chapter 2.
-use Rattle.std.specs.Prelude.{ℕ, List, [], ◌∷◌}
+use Rattle.std.specs.Prelude.{ℕ, [], ◌∷◌}
 use Rattle.rb_frac.specs.Ops.{V3}
 use Rattle.rb_frac.specs.Tables.{Table, Symmetric, transpose, full, cross_table}
 use Rattle.rb_frac.specs.Spatial.{Motion, Force, BodyInertia, Inertia, Motions, Forces, BodyInertias, Inertias, entry}

@@ -6,7 +6,7 @@ use Rattle.rb_frac.specs.Spatial.{Spatial, Motion, Force, Place, Spatials, Motio
 use Rattle.rb_num.specs.Interval.{Interval}
 use Rattle.rb_num.specs.Fraction.{LiesIn}
 use Rattle.rb_num.specs.Arith.{Arith, fractions}
-use Rattle.rb_spatial.specs.Encloses.{Encloses, EnclosesTwo, EnclosesThree, EnclosesFour}
+use Rattle.rb_spatial.specs.Encloses.{EnclosesTwo, EnclosesThree, EnclosesFour}
 
 -- the pairs of a product of two vectors
 abbrev pub pairs : {N : Type 0} → V3 N → V3 N → List (N × N)
