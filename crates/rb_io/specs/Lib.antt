@@ -2,7 +2,8 @@
 -- a piece whole.
 -- Of the forms in memory: MemFile, what names hold; MemFiles, what the inputs say of their calls;
 -- MemBytes, the same of the sinks; Pieces, how many bytes a call moves; Tally, which calls fail.
--- None of them is scaffolding of proofs alone: each is cited by contracts.
+-- Each is cited by contracts. Scaffolding of proofs are two: Puts of Calls, for loops that put piece by
+-- piece, and made_up of Outside, for a law of the inputs in memory.
 pub mod Outside
 pub mod Calls
 pub mod MemFile
