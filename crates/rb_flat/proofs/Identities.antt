@@ -6,9 +6,10 @@ use Rattle.rb_frac.specs.Tables.{transpose, full, unit, cross_table, table_times
 use Rattle.rb_frac.specs.Spatial.{SineCosine}
 use Rattle.rb_frac.specs.Mechanics.{parallel_axes}
 use Rattle.rb_frac.proofs.Ring.{expr, var}
-use Rattle.rb_frac.proofs.Variables.{vector, rows, symmetric, sine_cosine, quaternion, of_vector, of_rows, of_symmetric, of_sine_cosine, of_quaternion, vectors, tables}
-use Rattle.rb_flat.specs.Turns.{about_x, about_y, about_z, about_axis, about_quaternion}
-use Rattle.rb_flat.specs.Laws.{TurnKeepsAxis, QuaternionKeepsVector, TurnsAboutCoordinates, CongruentIsSymmetric, ParallelAxesIsSquare}
+use Rattle.rb_frac.proofs.Variables.{vector, rows, frame, symmetric, sine_cosine, quaternion, of_vector, of_rows, of_frame, of_symmetric, of_sine_cosine, of_quaternion, at, vectors, tables}
+use Rattle.rb_frac.proofs.Hom.{frac_ring}
+use Rattle.rb_flat.specs.Turns.{about_x, about_y, about_z, roll_pitch_yaw, about_axis, about_quaternion, placed}
+use Rattle.rb_flat.specs.Laws.{TurnKeepsAxis, QuaternionKeepsVector, TurnsAboutCoordinates, RollPitchYawInTurn, PointsInTurn, CongruentTurnsAxis, CongruentIsSymmetric, ParallelAxesIsSquare}
 
 pub turn_keeps_axis : TurnKeepsAxis
 unfolding table_times about_axis table_product table_sum table_scaled vadd vscale vdot
@@ -29,6 +30,33 @@ turns_about_coordinates t =
       y = tables l (about_axis expr (unit (signs expr) 1) (sine_cosine 0)) (about_y (signs expr) (sine_cosine 0)) (refl, refl, refl) (refl, refl, refl) (refl, refl, refl);
       z = tables l (about_axis expr (unit (signs expr) 2) (sine_cosine 0)) (about_z (signs expr) (sine_cosine 0)) (refl, refl, refl) (refl, refl, refl) (refl, refl, refl);
     }
+
+pub roll_pitch_yaw_in_turn : RollPitchYawInTurn
+unfolding about_x about_y about_z roll_pitch_yaw table_times table_product dot3
+roll_pitch_yaw_in_turn roll pitch yaw v =
+    let s = signs expr in
+    vectors (of_sine_cosine roll (of_sine_cosine pitch (of_sine_cosine yaw (of_vector v []))))
+    (table_times expr (roll_pitch_yaw expr (sine_cosine 0) (sine_cosine 2) (sine_cosine 4)) (vector 6))
+    (table_times expr (about_z s (sine_cosine 4)) (table_times expr (about_y s (sine_cosine 2)) (table_times expr (about_x s (sine_cosine 0)) (vector 6))))
+    (refl, refl, refl)
+
+pub points_in_turn : PointsInTurn
+unfolding placed table_times table_product vadd dot3
+points_in_turn f turn p v =
+    let x = placed expr (frame 0) (rows 12) (vector 21) in
+    vectors (of_frame f (of_rows turn (of_vector p (of_vector v []))))
+    (vadd expr x.r (table_times expr (transpose x.e) (vector 24)))
+    (vadd expr (vector 9) (table_times expr (rows 0) (vadd expr (vector 21) (table_times expr (rows 12) (vector 24)))))
+    (refl, refl, refl)
+
+pub congruent_turns_axis : CongruentTurnsAxis
+unfolding congruent table_times table_product dot3
+congruent_turns_axis r j w =
+    let u = table_times expr (transpose (rows 0)) (vector 15) in
+    frac_ring (at (of_rows r (of_symmetric j (of_vector w []))))
+    (dot3 expr (vector 15) (table_times expr (congruent expr (rows 0) (full (symmetric 9))) (vector 15)))
+    (dot3 expr u (table_times expr (full (symmetric 9)) u))
+    refl
 
 pub congruent_is_symmetric : CongruentIsSymmetric
 unfolding congruent table_product vdot

@@ -17,7 +17,7 @@ use Rattle.rb_num.specs.Sine.{IsBetween, cut, lesser, greater, sine_sum, cosine_
 use Rattle.rb_flat.specs.Turns.{about_axis, about_z, about_quaternion, placed}
 use Rattle.rb_flat.specs.Joint as J
 use Rattle.rb_flat.specs.Joint.{Kind, Fixed, Revolute, Continuous, Prismatic, Planar, Free, joint_turn, joint_shift, JointChoice, IsJointChoice, HasAngle, EntryHasAngle, chosen_frame, chosen_axis, chosen_place, chosen_column}
-use Rattle.rb_flat.specs.Laws.{ZeroHasOnePair, neutral_entries, FixedIsUnmoved, NeutralIsUnmoved, ContinuousIsRevolute, PlanarIsFree, FreeMovesAll}
+use Rattle.rb_flat.specs.Laws.{ZeroHasOnePair, neutral_entries, NeutralFits, FixedIsUnmoved, NeutralIsUnmoved, ContinuousIsRevolute, PlanarIsFree, FreeMovesAll}
 
 -- ---- the angle zero
 abbrev zero_angle : Frac
@@ -145,6 +145,14 @@ revolute_rest f a t h =
 pub fixed_is_unmoved : FixedIsUnmoved
 unfolding chosen_place
 fixed_is_unmoved c = fixed_rest (chosen_frame c) (chosen_axis c) c.angle c.entries
+
+pub neutral_fits : NeutralFits
+neutral_fits Fixed = refl
+neutral_fits Revolute = refl
+neutral_fits Continuous = refl
+neutral_fits Prismatic = refl
+neutral_fits Planar = refl
+neutral_fits Free = refl
 
 rest_of : (k : Kind) (f : Frame Frac) (a : V3 Frac) (t : SineCosine Frac) → EntryHasAngle k (neutral_entries k) t → Places Same (placed_at fracs k f a t (neutral_entries k)) (still f)
 rest_of Fixed f a t h = fixed_rest f a t []

@@ -1,12 +1,12 @@
 -- What is known of turns, joints and inertias, whatever the sines and cosines are: they need not lie on one circle.
-use Rattle.std.specs.Prelude.{◌≡◌, ℕ, ◌<◌, ◌==◌, if◌then◌else◌, List, [], ◌∷◌}
-use Rattle.rb_frac.specs.Ops.{V3, signs}
+use Rattle.std.specs.Prelude.{◌≡◌, ℕ, ◌<◌, ◌==◌, if◌then◌else◌, List, [], ◌∷◌, length}
+use Rattle.rb_frac.specs.Ops.{V3, signs, vadd, dot}
 use Rattle.rb_frac.specs.Frac.{Frac, Same, fracs}
 use Rattle.rb_frac.specs.Tables.{Table, Symmetric, Vectors, Tables, transpose, full, vector, unit, cross_table, table_times, table_product, table_scaled, congruent}
-use Rattle.rb_frac.specs.Spatial.{SineCosine, Quaternion, Place, SineCosines, Places, coordinate}
+use Rattle.rb_frac.specs.Spatial.{SineCosine, Quaternion, Frame, Place, SineCosines, Places, coordinate}
 use Rattle.rb_frac.specs.Mechanics.{parallel_axes}
-use Rattle.rb_flat.specs.Turns.{about_x, about_y, about_z, about_axis, about_quaternion}
-use Rattle.rb_flat.specs.Joint.{Kind, Fixed, Revolute, Continuous, Prismatic, Planar, Free, HasAngle, JointChoice, IsJointChoice, chosen_frame, chosen_place, chosen_column}
+use Rattle.rb_flat.specs.Turns.{about_x, about_y, about_z, roll_pitch_yaw, about_axis, about_quaternion, placed}
+use Rattle.rb_flat.specs.Joint.{Kind, Fixed, Revolute, Continuous, Prismatic, Planar, Free, entry_count, HasAngle, JointChoice, IsJointChoice, chosen_frame, chosen_place, chosen_column}
 
 -- a turn leaves its axis
 abbrev pub TurnKeepsAxis : Type 0
@@ -21,6 +21,20 @@ pub record TurnsAboutCoordinates (t : SineCosine Frac) : Type 0 where
   pub x : Tables Same (about_axis fracs (unit (signs fracs) 0) t) (about_x (signs fracs) t)
   pub y : Tables Same (about_axis fracs (unit (signs fracs) 1) t) (about_y (signs fracs) t)
   pub z : Tables Same (about_axis fracs (unit (signs fracs) 2) t) (about_z (signs fracs) t)
+
+-- vectors are turned by roll about x first, then by pitch about y, and then by yaw about z, which stay where they are
+abbrev pub RollPitchYawInTurn : Type 0
+RollPitchYawInTurn = (roll pitch yaw : SineCosine Frac) (v : V3 Frac) →
+    Vectors Same
+    (table_times fracs (roll_pitch_yaw fracs roll pitch yaw) v)
+    (table_times fracs (about_z (signs fracs) yaw) (table_times fracs (about_y (signs fracs) pitch) (table_times fracs (about_x (signs fracs) roll) v)))
+
+-- where a point v of a body stands in the parent, r + E^T v: the joint turns and shifts it, and then the frame does
+abbrev pub PointsInTurn : Type 0
+PointsInTurn = (f : Frame Frac) (turn : Table Frac) (p v : V3 Frac) →
+    Vectors Same
+    (vadd fracs (placed fracs f turn p).r (table_times fracs (transpose (placed fracs f turn p).e) v))
+    (vadd fracs f.at (table_times fracs f.rot (vadd fracs p (table_times fracs turn v))))
 
 -- ---- joints
 -- the angle zero has but one sine and one cosine
@@ -39,6 +53,9 @@ neutral_entries Continuous = fracs.one ∷ fracs.nul ∷ []
 neutral_entries Prismatic = fracs.nul ∷ []
 neutral_entries Planar = fracs.nul ∷ fracs.nul ∷ fracs.one ∷ fracs.nul ∷ []
 neutral_entries Free = fracs.nul ∷ fracs.nul ∷ fracs.nul ∷ fracs.nul ∷ fracs.nul ∷ fracs.nul ∷ fracs.one ∷ []
+
+abbrev pub NeutralFits : Type 0
+NeutralFits = (k : Kind) → length (neutral_entries k) ≡ entry_count k
 
 -- a fixed joint does not move its body, and no joint does at rest
 abbrev pub FixedIsUnmoved : Type 0
@@ -79,6 +96,12 @@ FreeMovesAll =
 abbrev pub CongruentIsSymmetric : Type 0
 CongruentIsSymmetric =
     (r : Table Frac) (j : Symmetric Frac) → Tables Same (congruent fracs r (full j)) (transpose (congruent fracs r (full j)))
+
+-- w.(R J R^T w) = (R^T w).(J R^T w): about an axis w it is J about that axis in the frame that R turns
+abbrev pub CongruentTurnsAxis : Type 0
+CongruentTurnsAxis = (r : Table Frac) (j : Symmetric Frac) (w : V3 Frac) →
+    let u = table_times fracs (transpose r) w in
+    Same (dot fracs w (table_times fracs (congruent fracs r (full j)) w)) (dot fracs u (table_times fracs (full j) u))
 
 -- m (c.c 1 - c c^T) = -m (c x)(c x)
 abbrev pub ParallelAxesIsSquare : Type 0

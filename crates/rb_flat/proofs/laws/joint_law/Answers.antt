@@ -1,9 +1,12 @@
-use Rattle.rb_flat.proofs.Places.{zero_has_one_pair, fixed_is_unmoved, neutral_is_unmoved, continuous_is_revolute, planar_is_free, free_moves_all}
+use Rattle.rb_flat.proofs.Places.{zero_has_one_pair, neutral_fits, fixed_is_unmoved, neutral_is_unmoved, continuous_is_revolute, planar_is_free, free_moves_all}
 use Rattle.rb_flat.proofs.Rates.{columns_are_rates}
 use Rattle.rb_flat.proofs.laws.joint_law.Goals as goal
 
 pub returns-clause-zero : goal.returns-clause-zero
 returns-clause-zero c = zero_has_one_pair
+
+pub returns-clause-entries : goal.returns-clause-entries
+returns-clause-entries c = neutral_fits
 
 pub returns-clause-fixed : goal.returns-clause-fixed
 returns-clause-fixed c = fixed_is_unmoved
