@@ -1,15 +1,16 @@
 -- Identities between tables of fractions, each as one of polynomials.
 use Rattle.std.proofs.Common.{[], ◌∷◌, refl}
-use Rattle.rb_frac.specs.Ops.{signs, vadd, vscale, vdot}
-use Rattle.rb_frac.specs.Frac.{Frac}
-use Rattle.rb_frac.specs.Tables.{transpose, full, unit, cross_table, table_times, table_product, table_sum, table_scaled, outer, congruent}
+use Rattle.rb_frac.specs.Ops.{signs, vadd, vscale, vdot, vcross}
+use Rattle.rb_frac.specs.Frac.{Frac, fracs}
+use Rattle.rb_frac.specs.Tables.{transpose, full, upper, unit, cross_table, table_times, table_product, table_sum, table_scaled, outer, congruent}
 use Rattle.rb_frac.specs.Spatial.{SineCosine}
-use Rattle.rb_frac.specs.Mechanics.{parallel_axes}
+use Rattle.rb_frac.specs.Mechanics.{parallel_axes, symmetric_sum, body_of}
 use Rattle.rb_frac.proofs.Ring.{expr, var}
 use Rattle.rb_frac.proofs.Variables.{vector, rows, frame, symmetric, sine_cosine, quaternion, of_vector, of_rows, of_frame, of_symmetric, of_sine_cosine, of_quaternion, at, vectors, tables}
 use Rattle.rb_frac.proofs.Hom.{frac_ring}
 use Rattle.rb_flat.specs.Turns.{about_x, about_y, about_z, roll_pitch_yaw, about_axis, about_quaternion, placed}
-use Rattle.rb_flat.specs.Laws.{TurnKeepsAxis, QuaternionKeepsVector, TurnsAboutCoordinates, RollPitchYawInTurn, PointsInTurn, CongruentTurnsAxis, CongruentIsSymmetric, ParallelAxesIsSquare}
+use Rattle.rb_flat.specs.Body.{about_centre, chosen_inertia}
+use Rattle.rb_flat.specs.Laws.{TurnKeepsAxis, QuaternionKeepsVector, TurnsAboutCoordinates, RollPitchYawInTurn, PointsInTurn, InertiaAboutAxis, CongruentIsSymmetric, ParallelAxesIsSquare}
 
 pub turn_keeps_axis : TurnKeepsAxis
 unfolding table_times about_axis table_product table_sum table_scaled vadd vscale vdot
@@ -32,7 +33,7 @@ turns_about_coordinates t =
     }
 
 pub roll_pitch_yaw_in_turn : RollPitchYawInTurn
-unfolding about_x about_y about_z roll_pitch_yaw table_times table_product dot3
+unfolding about_x about_y about_z roll_pitch_yaw table_times table_product vdot
 roll_pitch_yaw_in_turn roll pitch yaw v =
     let s = signs expr in
     vectors (of_sine_cosine roll (of_sine_cosine pitch (of_sine_cosine yaw (of_vector v []))))
@@ -41,7 +42,7 @@ roll_pitch_yaw_in_turn roll pitch yaw v =
     (refl, refl, refl)
 
 pub points_in_turn : PointsInTurn
-unfolding placed table_times table_product vadd dot3
+unfolding placed table_times table_product vadd vdot
 points_in_turn f turn p v =
     let x = placed expr (frame 0) (rows 12) (vector 21) in
     vectors (of_frame f (of_rows turn (of_vector p (of_vector v []))))
@@ -49,13 +50,16 @@ points_in_turn f turn p v =
     (vadd expr (vector 9) (table_times expr (rows 0) (vadd expr (vector 21) (table_times expr (rows 12) (vector 24)))))
     (refl, refl, refl)
 
-pub congruent_turns_axis : CongruentTurnsAxis
-unfolding congruent table_times table_product dot3
-congruent_turns_axis r j w =
+pub inertia_about_axis : InertiaAboutAxis
+unfolding chosen_inertia about_centre body_of symmetric_sum parallel_axes outer congruent table_times table_product table_sum table_scaled vadd vscale vdot vcross
+inertia_about_axis b w =
+    let r = roll_pitch_yaw fracs b.roll b.pitch b.yaw in
     let u = table_times expr (transpose (rows 0)) (vector 15) in
-    frac_ring (at (of_rows r (of_symmetric j (of_vector w []))))
-    (dot3 expr (vector 15) (table_times expr (congruent expr (rows 0) (full (symmetric 9))) (vector 15)))
-    (dot3 expr u (table_times expr (full (symmetric 9)) u))
+    let d = vcross expr (vector 15) (vector 19) in
+    let six = (body_of expr (var 18) (vector 19) (upper (congruent expr (rows 0) (full (symmetric 9))))).six in
+    frac_ring (at (of_rows r (of_symmetric b.six (of_vector w (b.mass ∷ of_vector b.centre [])))))
+    (vdot expr (vector 15) (table_times expr (full six) (vector 15)))
+    (expr.add (vdot expr u (table_times expr (full (symmetric 9)) u)) (expr.mul (var 18) (vdot expr d d)))
     refl
 
 pub congruent_is_symmetric : CongruentIsSymmetric

@@ -1,12 +1,13 @@
 -- What is known of turns, joints and inertias, whatever the sines and cosines are: they need not lie on one circle.
 use Rattle.std.specs.Prelude.{◌≡◌, ℕ, ◌<◌, ◌==◌, if◌then◌else◌, List, [], ◌∷◌, length}
-use Rattle.rb_frac.specs.Ops.{V3, signs, vadd, dot}
+use Rattle.rb_frac.specs.Ops.{V3, signs, vadd, dot, cross}
 use Rattle.rb_frac.specs.Frac.{Frac, Same, fracs}
 use Rattle.rb_frac.specs.Tables.{Table, Symmetric, Vectors, Tables, transpose, full, vector, unit, cross_table, table_times, table_product, table_scaled, congruent}
 use Rattle.rb_frac.specs.Spatial.{SineCosine, Quaternion, Frame, Place, SineCosines, Places, coordinate}
 use Rattle.rb_frac.specs.Mechanics.{parallel_axes}
 use Rattle.rb_flat.specs.Turns.{about_x, about_y, about_z, roll_pitch_yaw, about_axis, about_quaternion, placed}
 use Rattle.rb_flat.specs.Joint.{Kind, Fixed, Revolute, Continuous, Prismatic, Planar, Free, entry_count, HasAngle, JointChoice, IsJointChoice, chosen_frame, chosen_place, chosen_column}
+use Rattle.rb_flat.specs.Body.{BodyChoice, chosen_inertia}
 
 -- a turn leaves its axis
 abbrev pub TurnKeepsAxis : Type 0
@@ -97,11 +98,14 @@ abbrev pub CongruentIsSymmetric : Type 0
 CongruentIsSymmetric =
     (r : Table Frac) (j : Symmetric Frac) → Tables Same (congruent fracs r (full j)) (transpose (congruent fracs r (full j)))
 
--- w.(R J R^T w) = (R^T w).(J R^T w): about an axis w it is J about that axis in the frame that R turns
-abbrev pub CongruentTurnsAxis : Type 0
-CongruentTurnsAxis = (r : Table Frac) (j : Symmetric Frac) (w : V3 Frac) →
-    let u = table_times fracs (transpose r) w in
-    Same (dot fracs w (table_times fracs (congruent fracs r (full j)) w)) (dot fracs u (table_times fracs (full j) u))
+-- about an axis w: what the six numbers are about it in their own frame, and the mass by the square of w x c (Steiner)
+abbrev pub InertiaAboutAxis : Type 0
+InertiaAboutAxis = (b : BodyChoice) (w : V3 Frac) →
+    let u = table_times fracs (transpose (roll_pitch_yaw fracs b.roll b.pitch b.yaw)) w in
+    let d = cross fracs w b.centre in
+    Same
+    (dot fracs w (table_times fracs (full (chosen_inertia b).six) w))
+    (fracs.add (dot fracs u (table_times fracs (full b.six) u)) (fracs.mul b.mass (dot fracs d d)))
 
 -- m (c.c 1 - c c^T) = -m (c x)(c x)
 abbrev pub ParallelAxesIsSquare : Type 0

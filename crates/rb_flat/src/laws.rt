@@ -5,7 +5,7 @@ ghost use Rattle.rb_frac.specs.Spatial.{SineCosine};
 ghost use Rattle.rb_flat.specs.Choice.{HasChoice};
 ghost use Rattle.rb_flat.specs.Joint.{JointChoice};
 ghost use Rattle.rb_flat.specs.Rates.{ColumnsAreRates};
-ghost use Rattle.rb_flat.specs.Laws.{TurnKeepsAxis, QuaternionKeepsVector, TurnsAboutCoordinates, RollPitchYawInTurn, PointsInTurn, ZeroHasOnePair, NeutralFits, FixedIsUnmoved, NeutralIsUnmoved, ContinuousIsRevolute, PlanarIsFree, FreeMovesAll, CongruentTurnsAxis, CongruentIsSymmetric, ParallelAxesIsSquare};
+ghost use Rattle.rb_flat.specs.Laws.{TurnKeepsAxis, QuaternionKeepsVector, TurnsAboutCoordinates, RollPitchYawInTurn, PointsInTurn, ZeroHasOnePair, NeutralFits, FixedIsUnmoved, NeutralIsUnmoved, ContinuousIsRevolute, PlanarIsFree, FreeMovesAll, InertiaAboutAxis, CongruentIsSymmetric, ParallelAxesIsSquare};
 
 /// A turn leaves its axis, and about a unit vector it is the turn about that coordinate axis. Roll
 /// turns first, then pitch and then yaw; the joint turns and shifts a point of the body first, and
@@ -34,11 +34,12 @@ pub fn joint_law()
     ensures rates { ColumnsAreRates }
 {}
 
-/// A turned inertia is, about each axis, what it was about that axis in its own frame, and it is
-/// symmetric. What the distance of the centre adds to it is, but for the sign, the mass times the
-/// square of the table of the cross product with the centre.
+/// The inertia of a body about an axis is that of the six numbers in their own frame, and the mass
+/// times the square of the centre's distance (Steiner). A turned inertia is symmetric, and what the
+/// distance of the centre adds to it is, but for the sign, the mass times the square of the table of
+/// the cross product with the centre.
 pub fn inertia_law()
-    ensures axis { CongruentTurnsAxis }
+    ensures axis { InertiaAboutAxis }
     ensures symmetric { CongruentIsSymmetric }
     ensures parallel { ParallelAxesIsSquare }
 {}
