@@ -6,6 +6,7 @@ use Rattle.rb_frac.specs.Frac.{Frac, Same, add, mul}
 use Rattle.rb_frac.specs.Tables.{Symmetric, Vectors, Symmetrics}
 use Rattle.rb_num.specs.Interval.{Interval}
 use Rattle.rb_num.specs.Fraction.{LiesIn}
+use Rattle.rb_num.specs.Least.{Covers}
 use Rattle.rb_flat.specs.Shape.{Shape, HasBody, HasColumn, MimicsFit}
 use Rattle.rb_flat.specs.Joint.{Kind, entry_count, JointChoice, IsJointChoice}
 use Rattle.rb_flat.specs.Body.{BodyChoice, IsBodyChoice}
@@ -158,3 +159,17 @@ pub record IsStateOrdered (shape : Shape) (state : StateBrackets) : Type 0 where
 -- each robot and state has a choice
 abbrev pub HasChoice : Type 0
 HasChoice = (robot : RobotBrackets) (state : StateBrackets) → IsRobotOrdered robot → IsStateOrdered robot.shape state → (c : Choice) × IsChoice robot state c
+
+-- ---- wider brackets
+-- each bracket of the one state covers that of the other
+pub record StateCovers (wide narrow : StateBrackets) : Type 0 where
+  pub gravity : Vectors Covers wide.gravity narrow.gravity
+  pub entry : (place : ℕ) → Covers (wide.entry place) (narrow.entry place)
+  pub speed : (k : ℕ) → Covers (wide.speed k) (narrow.speed k)
+  pub acceleration : (k : ℕ) → Covers (wide.acceleration k) (narrow.acceleration k)
+  pub torque : (k : ℕ) → Covers (wide.torque k) (narrow.torque k)
+
+-- a choice for a state is one for each wider state
+abbrev pub WiderKeepsChoice : Type 0
+WiderKeepsChoice =
+    (robot : RobotBrackets) (wide narrow : StateBrackets) (c : Choice) → StateCovers wide narrow → IsChoice robot narrow c → IsChoice robot wide c

@@ -2,7 +2,7 @@
 
 ghost use Rattle.rb_frac.specs.Frac.{Frac};
 ghost use Rattle.rb_frac.specs.Spatial.{SineCosine};
-ghost use Rattle.rb_flat.specs.Choice.{HasChoice};
+ghost use Rattle.rb_flat.specs.Choice.{HasChoice, WiderKeepsChoice};
 ghost use Rattle.rb_flat.specs.Joint.{JointChoice};
 ghost use Rattle.rb_flat.specs.Rates.{ColumnsAreRates};
 ghost use Rattle.rb_flat.specs.Laws.{TurnKeepsAxis, QuaternionKeepsVector, TurnsAboutCoordinates, RollPitchYawInTurn, PointsInTurn, ZeroHasOnePair, NeutralFits, FixedIsUnmoved, NeutralIsUnmoved, ContinuousIsRevolute, PlanarIsFree, FreeMovesAll, InertiaAboutAxis, CongruentIsSymmetric, ParallelAxesIsSquare};
@@ -45,7 +45,8 @@ pub fn inertia_law()
 {}
 
 /// There is a choice for every robot and state whose brackets are in order, where each joint that
-/// follows another may.
+/// follows another may. It is a choice for each wider state too.
 pub fn choice_law()
-    ensures { HasChoice }
+    ensures exists { HasChoice }
+    ensures wider { WiderKeepsChoice }
 {}
