@@ -1,6 +1,6 @@
 -- What is known of turns, joints and inertias, whatever the sines and cosines are: they need not lie on one circle.
 use Rattle.std.specs.Prelude.{◌≡◌, ℕ, ◌<◌, ◌==◌, if◌then◌else◌, List, [], ◌∷◌, length}
-use Rattle.rb_frac.specs.Ops.{V3, signs, vadd, dot, cross}
+use Rattle.rb_frac.specs.Ops.{V3, signs, vadd, vdot, vcross}
 use Rattle.rb_frac.specs.Frac.{Frac, Same, fracs}
 use Rattle.rb_frac.specs.Tables.{Table, Symmetric, Vectors, Tables, transpose, full, vector, unit, cross_table, table_times, table_product, table_scaled, congruent}
 use Rattle.rb_frac.specs.Spatial.{SineCosine, Quaternion, Frame, Place, SineCosines, Places, coordinate}
@@ -102,10 +102,10 @@ CongruentIsSymmetric =
 abbrev pub InertiaAboutAxis : Type 0
 InertiaAboutAxis = (b : BodyChoice) (w : V3 Frac) →
     let u = table_times fracs (transpose (roll_pitch_yaw fracs b.roll b.pitch b.yaw)) w in
-    let d = cross fracs w b.centre in
+    let d = vcross fracs w b.centre in
     Same
-    (dot fracs w (table_times fracs (full (chosen_inertia b).six) w))
-    (fracs.add (dot fracs u (table_times fracs (full b.six) u)) (fracs.mul b.mass (dot fracs d d)))
+    (vdot fracs w (table_times fracs (full (chosen_inertia b).six) w))
+    (fracs.add (vdot fracs u (table_times fracs (full b.six) u)) (fracs.mul b.mass (vdot fracs d d)))
 
 -- m (c.c 1 - c c^T) = -m (c x)(c x)
 abbrev pub ParallelAxesIsSquare : Type 0
