@@ -5,7 +5,6 @@ use Rattle.std.proofs.lemmas.Bool.Decides.{nat_tests}
 use Rattle.std.proofs.lemmas.List.{length-append, append-nil}
 use Rattle.rb_tags.specs.declared.tag.Tag.{Tag}
 use Rattle.rb_tags.specs.declared.read.TagFault.{TagFault}
-use Rattle.rb_tags.specs.Faults.{◌>>=◌}
 use Rattle.rb_tags.specs.Bytes.{is_space, is_text_byte, past, after_front}
 use Rattle.rb_tags.specs.Seen.{OpenElement, Seen, nothing_seen, marked, marked_at, read_mark, read_text}
 use Rattle.rb_tags.specs.Tags.{tags_from, order_mark, behind_order_mark, tags_of_text, tags_of}
@@ -19,6 +18,7 @@ use Rattle.rb_tags.specs.Refusals.{IsLead, Reached}
 use Rattle.rb_tags.proofs.Closes.{no_front}
 use Rattle.rb_tags.proofs.Parts.{texts, one_more, count_is}
 use Rattle.rb_tags.proofs.Follows.{Moves, mark_moves, mark_taken}
+use Rattle.rb_result.specs.Steps.{◌>>=◌}
 
 space_is_text : (b : ℕ) → is_space b ≡ true → is_text_byte b ≡ true
 unfolding is_space is_text_byte

@@ -2,13 +2,14 @@
 use Rattle.std.proofs.Common.{◌≡◌, ℕ, suc, List, ◌++◌, take, drop, codes, Option, Some, None, Result, Ok, Err, refl, ap, ◌∙◌, inl, inr}
 use Rattle.rb_tags.specs.declared.read.TagKind.{TagKind}
 use Rattle.rb_tags.specs.declared.read.TagKind.TheVariants as kind
-use Rattle.rb_tags.specs.Faults.{or_fault, ◌>>=◌}
 use Rattle.rb_tags.specs.Bytes.{after_front, after_first}
 use Rattle.rb_tags.specs.Marks.{Mark, tag_in, closing_at, tag_at, run_to, mark_at}
 use Rattle.rb_tags.specs.BadMarks.{BeginsTag, Lacks, NeverEnds, NeverFits, IsBadMark}
 use Rattle.rb_tags.proofs.Closes.{no_front, first_takes}
 use Rattle.rb_tags.proofs.TagParts.{ends_found, ends_there}
 use Rattle.rb_tags.proofs.MarkLaws.{mark_sound}
+use Rattle.rb_result.specs.Steps.{◌>>=◌}
+use Rattle.std.specs.Option.{ok_or}
 
 never_after : (closing bytes : List ℕ) → Lacks closing bytes → after_first closing bytes ≡ None
 never_after closing bytes never = by_read (after_first closing bytes) refl
@@ -47,7 +48,7 @@ never_ends : (bytes : List ℕ) → NeverEnds bytes → mark_at bytes ≡ Err ki
 unfolding tag_at
 never_ends bytes h = at_tag bytes h.tag ∙ by_end (closing_at None bytes) refl
   where
-    by_end : (o : Option ℕ) → closing_at None bytes ≡ o → (or_fault kind.Unclosed o >>= λ end. or_fault kind.BadMark (tag_in (take end bytes)) >>= λ mark. read_pair mark (drop (suc end) bytes)) ≡ Err kind.Unclosed
+    by_end : (o : Option ℕ) → closing_at None bytes ≡ o → (ok_or o kind.Unclosed >>= λ end. ok_or (tag_in (take end bytes)) kind.BadMark >>= λ mark. read_pair mark (drop (suc end) bytes)) ≡ Err kind.Unclosed
     by_end None is = refl
     by_end (Some n) is = absurd (h.never (ends_there bytes n is))
 
@@ -55,7 +56,7 @@ never_fits : (bytes : List ℕ) → NeverFits bytes → mark_at bytes ≡ Err ki
 unfolding tag_at
 never_fits bytes h = at_tag bytes h.tag ∙ by_end (closing_at None bytes) refl
   where
-    by_tag : (n : ℕ) → closing_at None bytes ≡ Some n → (o : Option Mark) → tag_in (take n bytes) ≡ o → (or_fault kind.BadMark o >>= λ mark. read_pair mark (drop (suc n) bytes)) ≡ Err kind.BadMark
+    by_tag : (n : ℕ) → closing_at None bytes ≡ Some n → (o : Option Mark) → tag_in (take n bytes) ≡ o → (ok_or o kind.BadMark >>= λ mark. read_pair mark (drop (suc n) bytes)) ≡ Err kind.BadMark
     by_tag n ends None is = refl
     by_tag n ends (Some m) is = absurd (
         let read : mark_at bytes ≡ Ok (m, drop (suc n) bytes) = at_tag bytes h.tag ∙ rw (ends, is) refl in
@@ -63,7 +64,7 @@ never_fits bytes h = at_tag bytes h.tag ∙ by_end (closing_at None bytes) refl
         h.never s.written (drop (suc n) bytes) s.is_mark s.text
         )
 
-    by_end : (o : Option ℕ) → closing_at None bytes ≡ o → (or_fault kind.Unclosed o >>= λ end. or_fault kind.BadMark (tag_in (take end bytes)) >>= λ mark. read_pair mark (drop (suc end) bytes)) ≡ Err kind.BadMark
+    by_end : (o : Option ℕ) → closing_at None bytes ≡ o → (ok_or o kind.Unclosed >>= λ end. ok_or (tag_in (take end bytes)) kind.BadMark >>= λ mark. read_pair mark (drop (suc end) bytes)) ≡ Err kind.BadMark
     by_end None is = absurd (ends_found bytes is h.ends)
     by_end (Some n) is = by_tag n is (tag_in (take n bytes)) refl
 

@@ -5,17 +5,17 @@ use Rattle.std.proofs.lemmas.List.{append-nil}
 use Rattle.std.proofs.lemmas.List.Elements.{All-head}
 use Rattle.rb_tags.specs.declared.tag.Tag.{Tag}
 use Rattle.rb_tags.specs.declared.read.TagFault.{TagFault}
-use Rattle.rb_tags.specs.Faults.{◌>>=◌}
 use Rattle.rb_tags.specs.Bytes.{is_space, after_front}
 use Rattle.rb_tags.specs.Seen.{OpenElement, Seen, read_text, finished_in, finished}
 use Rattle.rb_tags.specs.Tags.{order_mark, tags_of}
 use Rattle.rb_tags.specs.Grammar.{IsSpace, Part, Nest, Accepts}
-use Rattle.rb_tags.proofs.Results.{same_ok}
 use Rattle.rb_tags.proofs.SoFar.{after_text, step}
 use Rattle.rb_tags.specs.Refusals.{IsLead, count_in, Reached}
 use Rattle.rb_tags.proofs.Closes.{not_front}
 use Rattle.rb_tags.proofs.Arrives.{spaces_are_text, text_again, part_cut, seen_at}
 use Rattle.rb_tags.proofs.Parts.{texts}
+use Rattle.rb_result.specs.Steps.{◌>>=◌}
+use Rattle.rb_result.proofs.Results.{same_ok}
 
 finished_again : (seen : Seen) (size : ℕ) → seen.open_elements ≡ [] → seen.tags ≢ [] → finished seen size ≡ Ok seen.tags
 unfolding finished

@@ -10,7 +10,7 @@ use Rattle.rb_tags.specs.declared.tag.Tag.{Tag}
 use Rattle.rb_tags.specs.declared.read.TagFault.{TagFault}
 use Rattle.rb_tags.specs.declared.read.TagKind.{TagKind}
 use Rattle.rb_tags.specs.declared.read.TagKind.TheVariants as kind
-use Rattle.rb_tags.specs.Faults.{fault_at, ◌>>=◌}
+use Rattle.rb_tags.specs.Faults.{fault_at}
 use Rattle.rb_tags.specs.Bytes.{is_space, is_text_byte, past}
 use Rattle.rb_tags.specs.Seen.{OpenElement, Seen, are_distinct, with_tag, entered, started, ended_in, ended, with_data, marked, marked_at, read_mark, read_text, finished_in, finished}
 use Rattle.rb_tags.specs.Marks.{Mark, mark_at}
@@ -27,6 +27,7 @@ use Rattle.rb_tags.proofs.BadAgain.{bad_again}
 use Rattle.rb_tags.proofs.Follows.{second, inside_is, second_is, StartAnswer, ASecond, ATwice, ADeep, AMany, ATaken, answer_of}
 use Rattle.rb_tags.proofs.Judged.{place_of}
 use Rattle.rb_tags.proofs.Arrives.{no_text_byte, spaces_are_text, text_again, seen_at}
+use Rattle.rb_result.specs.Steps.{◌>>=◌}
 
 not_utf8 : (bytes : List ℕ) (at : ℕ) → IsValidUpTo bytes at → tags_of bytes ≡ Err (fault_at kind.NotUtf8 at)
 not_utf8 bytes at h =

@@ -8,12 +8,12 @@ use Rattle.std.proofs.lemmas.List.{append-nil, nil_from_length}
 use Rattle.rb_tags.specs.declared.tag.Tag.{Tag}
 use Rattle.rb_tags.specs.declared.read.TagKind.{TagKind}
 use Rattle.rb_tags.specs.declared.read.TagKind.TheVariants.{BadMark, Twice, Depth, TooMany, Mismatch}
-use Rattle.rb_tags.specs.Faults.{◌>>=◌}
 use Rattle.rb_tags.specs.Seen.{OpenElement, Seen, are_distinct, with_tag, entered, started, ended_in, ended, with_data, marked}
 use Rattle.rb_tags.specs.Grammar.{WrittenStart, IsStart, start_text, start_of, WrittenEnd, IsEnd, end_text, WrittenMark, Instruction, Comment, Data, Start, End, IsMark, mark_text, mark_of_written, MayStart, MayFollow, Closes, others_of, elements_after, tags_of_mark}
 use Rattle.rb_tags.specs.Refusals.{AtMark, AtInner, HasFaultOf}
-use Rattle.rb_tags.proofs.Results.{then_ok, same_ok, failed, same_err}
 use Rattle.rb_tags.proofs.Distinct.{written_distinct, distinct_again}
+use Rattle.rb_result.specs.Steps.{◌>>=◌}
+use Rattle.rb_result.proofs.Results.{then-ok, fault, same_ok, same_err}
 
 -- what was seen before and after a mark
 pub record Moves (seen : Seen) (place : ℕ) (w : WrittenMark) (now : Seen) : Type 0 where
@@ -107,7 +107,7 @@ ended_open (innermost ∷ elements) name others e = by_test (bytes_eq innermost.
 end_moves : (seen : Seen) (place : ℕ) (w : WrittenEnd) (now : Seen) → ended seen w.name ≡ Ok now → Moves seen place (End w) now
 unfolding ended
 end_moves seen place w now e =
-    let t = then_ok (ended_in seen.open_elements w.name) (λ others. Ok (record { tags = seen.tags; open_elements = others })) now e in
+    let t = then-ok (ended_in seen.open_elements w.name) (λ others. Ok (record { tags = seen.tags; open_elements = others })) now e in
     let o = ended_open seen.open_elements w.name t.0 t.1 in
     let made : Seen = record { tags = seen.tags; open_elements = t.0 } in
     subst (λ (y : Seen). Moves seen place (End w) y) (same_ok made now t.2) (record { follow = o.0; tags = sym (append-nil seen.tags); elements = o.1 })
@@ -231,9 +231,9 @@ module _ (bytes rest after : List ℕ) (at : ℕ) (seen : Seen) (here : AtMark b
       by_test true h given = absurd cc
       by_test false h given = (same_err Mismatch kind given, λ same. let equal = (bytes_eq-Decides innermost.name name).1 (sym same) in let clash : true ≡ false = sym equal ∙ h in absurd cc)
 
-  then_err : (r : Result (List OpenElement) TagKind) (kind : TagKind) → (r >>= λ others. Ok (record { tags = seen.tags; open_elements = others })) ≡ failed {A = Seen} kind → r ≡ Err kind
+  then_err : (r : Result (List OpenElement) TagKind) (kind : TagKind) → (r >>= λ others. Ok (record { tags = seen.tags; open_elements = others })) ≡ fault {A = Seen} kind → r ≡ Err kind
   then_err (Ok x) kind e = absurd cc
-  then_err (Err d) kind e = ap (λ (k : TagKind). failed k) (same_err d kind e)
+  then_err (Err d) kind e = ap (λ (k : TagKind). fault k) (same_err d kind e)
 
   end_fails : (w : WrittenEnd) (kind : TagKind) → IsEnd w → codes "<" ++ rest ≡ end_text w ++ after → ended seen w.name ≡ Err kind → HasFaultOf bytes kind at
   unfolding ended

@@ -16,14 +16,13 @@ use Rattle.rb_tags.specs.declared.read.TagFault.{TagFault}
 use Rattle.rb_tags.specs.declared.read.TagKind.{TagKind}
 use Rattle.rb_tags.specs.declared.read.TagKind.TheVariants.{NotUtf8, BadMark, Unclosed}
 use Rattle.rb_tags.specs.declared.read.TagKind.TheVariants as kind
-use Rattle.rb_tags.specs.Faults.{fault_at, ◌>>=◌}
+use Rattle.rb_tags.specs.Faults.{fault_at}
 use Rattle.rb_tags.specs.Bytes.{is_space, is_text_byte, past, after_front}
-use Rattle.rb_tags.specs.Seen.{OpenElement, Seen, nothing_seen, marked, marked_at, placed, read_mark, read_text, finished_in, finished}
+use Rattle.rb_tags.specs.Seen.{OpenElement, Seen, nothing_seen, marked, marked_at, read_mark, read_text, finished_in, finished}
 use Rattle.rb_tags.specs.Marks.{Mark, mark_at}
 use Rattle.rb_tags.specs.Tags.{tags_from, order_mark, behind_order_mark, tags_of_text, tags_of}
 use Rattle.rb_tags.specs.Grammar.{IsSpace, mark_text, mark_of_written, Part, IsPart, part_text, MayStand, MayFollow, elements_after, left_open, tags_of_mark, tags_in, Accepts}
 use Rattle.rb_tags.specs.Refusals.{IsLead, count_in, Reached, AtMark, HasBadMark, HasFaultOf, HasFault}
-use Rattle.rb_tags.proofs.Results.{passed_test, same_ok, same_err}
 use Rattle.rb_tags.proofs.Runs.{Stops, past_stops}
 use Rattle.rb_tags.proofs.Steps.{past-length, run_split, run_passes, front_takes}
 use Rattle.rb_tags.proofs.SoFar.{text_rest, reads_mark, read_no_longer, after_text, step}
@@ -31,6 +30,8 @@ use Rattle.rb_tags.proofs.MarkLaws.{mark_sound, mark_refused}
 use Rattle.rb_tags.proofs.Parts.{texts, texts_push, are_parts_push, open_push, tags_push, nest_push, count_is}
 use Rattle.rb_tags.proofs.Follows.{mark_moves}
 use Rattle.rb_tags.proofs.Follows
+use Rattle.rb_result.specs.Steps.{◌>>=◌, placed}
+use Rattle.rb_result.proofs.Results.{unless-ok, same_ok, same_err}
 
 -- the file is read up to a place, and the rest is left
 pub record Known (bytes : List ℕ) (place : ℕ) (seen : Seen) (rest : List ℕ) : Type 0 where
@@ -77,7 +78,7 @@ text_stands : (seen : Seen) (place : ℕ) (left rest : List ℕ) → read_text s
 unfolding read_text
 text_stands seen place left rest e =
     let text = take_while is_text_byte left in
-    let t = passed_test (eqb (length seen.open_elements) 0 && not (list_all is_space text)) (fault_at BadMark (place + length (take_while is_space text))) (Ok (past is_text_byte left)) rest e in
+    let t = unless-ok (eqb (length seen.open_elements) 0 && not (list_all is_space text)) (fault_at BadMark (place + length (take_while is_space text))) (Ok (past is_text_byte left)) rest e in
     by_test (eqb (length seen.open_elements) 0) refl (list_all is_space text) refl t.0
   where
     by_test : (a : Bool) → eqb (length seen.open_elements) 0 ≡ a → (b : Bool) → list_all is_space (take_while is_text_byte left) ≡ b → (a && not b) ≡ false → MayStand seen.open_elements (take_while is_text_byte left)
@@ -196,14 +197,14 @@ mark_faults : (bytes : List ℕ) (place : ℕ) (seen : Seen) (left rest behind :
 unfolding read_mark marked_at
 mark_faults bytes place seen left rest behind f k t is e = by_mark (mark_at behind) refl e
   where
-    by_now : (at : ℕ) → AtMark bytes at (length seen.tags) seen.open_elements behind → (m : Mark) (after : List ℕ) → mark_at behind ≡ Ok (m, after) → (q : Result Seen TagKind) → marked seen at m ≡ q → placed {A = Seen × List ℕ} at (q >>= λ now. Ok (now, after)) ≡ Err f → HasFault bytes f
+    by_now : (at : ℕ) → AtMark bytes at (length seen.tags) seen.open_elements behind → (m : Mark) (after : List ℕ) → mark_at behind ≡ Ok (m, after) → (q : Result Seen TagKind) → marked seen at m ≡ q → placed {A = Seen × List ℕ} fault_at at (q >>= λ now. Ok (now, after)) ≡ Err f → HasFault bytes f
     by_now at here m after read (Ok now) marks given = absurd cc
     by_now at here m after read (Err kind) marks given =
         let s = mark_sound behind m after read in
         let fails : marked seen at (mark_of_written s.written) ≡ Err kind = ap (λ (w : Mark). marked seen at w) (sym s.mark) ∙ marks in
         subst (λ (y : TagFault). HasFault bytes y) (same_err (fault_at kind at) f given) (Follows.mark_fails bytes behind after at seen here s.written kind s.is_mark s.text fails)
 
-    by_mark : (o : Result (Mark × List ℕ) TagKind) → mark_at behind ≡ o → placed {A = Seen × List ℕ} (length bytes - length rest) (o >>= λ mark. marked seen (length bytes - length rest) mark.0 >>= λ now. Ok (now, mark.1)) ≡ Err f → HasFault bytes f
+    by_mark : (o : Result (Mark × List ℕ) TagKind) → mark_at behind ≡ o → placed {A = Seen × List ℕ} fault_at (length bytes - length rest) (o >>= λ mark. marked seen (length bytes - length rest) mark.0 >>= λ now. Ok (now, mark.1)) ≡ Err f → HasFault bytes f
     by_mark (Ok (m, after)) read given = by_now (length bytes - length rest) (at_mark bytes place seen left rest behind k (before_mark bytes place seen left rest behind k t is)) m after read (marked seen (length bytes - length rest) m) refl given
     by_mark (Err kind) read given =
         let at = length bytes - length rest in

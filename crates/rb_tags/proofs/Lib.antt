@@ -14,7 +14,6 @@ pub mod MarkLaws
 pub mod Over
 pub mod Parts
 pub mod References
-pub mod Results
 pub mod Runs
 pub mod SoFar
 pub mod Steps

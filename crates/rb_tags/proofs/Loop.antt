@@ -4,11 +4,12 @@ use Rattle.std.proofs.lemmas.List.{append-nil}
 use Rattle.rb_tags.specs.declared.read.TagKind.{TagKind}
 use Rattle.rb_tags.specs.declared.read.TagKind.TheVariants.{BadMark, Memory}
 use Rattle.rb_tags.specs.declared.tag.Attr.{Attr}
-use Rattle.rb_tags.specs.Faults.{or_fault}
 use Rattle.rb_tags.specs.References.{◌>?=◌}
 use Rattle.rb_tags.specs.Bytes.{is_space, past}
 use Rattle.rb_tags.specs.Marks.{attr_at, attr_follows, attrs_at}
 use Rattle.rb_tags.proofs.Takes.{attr_shortens}
+use Rattle.std.specs.Option.{ok_or}
+use Rattle.rb_result.proofs.Results.{found-ok, found-err}
 
 abbrev with_front : List Attr → Option (List Attr × List ℕ) → Option (List Attr × List ℕ)
 with_front front read = read >?= λ x. Some (front ++ x.0, x.1)
@@ -70,30 +71,17 @@ attrs_end bytes front rest h follows =
     let one : with_front front (attrs_at h.left rest) ≡ Some (front, rest) = rw (no_step h.left rest follows) (ap (λ (all : List Attr). Some (all, rest)) (append-nil front)) in
     sym h.so_far ∙ one
 
--- what was read, or BadMark
-fault_some : {A : Type 0} (o : Option A) (x : A) → or_fault BadMark o ≡ Ok x → o ≡ Some x
-fault_some (Some y) x e = cc
-fault_some None x e = absurd cc
+pub attrs_go_on : (bytes : List ℕ) (front : List Attr) (rest : List ℕ) (a : Attr) (after : List ℕ) → AttrsSoFar bytes front rest → attr_follows rest ≡ true → ok_or (attr_at (past is_space rest)) BadMark ≡ Ok (a, after) → AttrsSoFar bytes (front ++ a ∷ []) after
+attrs_go_on bytes front rest a after h follows e = attrs_more bytes front rest a after h follows (found-ok (attr_at (past is_space rest)) BadMark (a, after) e)
 
-record IsFault {A : Type 0} (o : Option A) (kind : TagKind) : Type 0 where
-  none : o ≡ None
-  is : BadMark ≡ kind
+pub attrs_shorten : (rest : List ℕ) (a : Attr) (after : List ℕ) → attr_follows rest ≡ true → ok_or (attr_at (past is_space rest)) BadMark ≡ Ok (a, after) → length after < length rest
+attrs_shorten rest a after follows e = attr_shortens rest (a, after) follows (found-ok (attr_at (past is_space rest)) BadMark (a, after) e)
 
-fault_none : {A : Type 0} (o : Option A) (kind : TagKind) → or_fault BadMark o ≡ Err kind → IsFault o kind
-fault_none (Some y) kind e = absurd cc
-fault_none None kind e = record { none = refl; is = cc }
-
-pub attrs_go_on : (bytes : List ℕ) (front : List Attr) (rest : List ℕ) (a : Attr) (after : List ℕ) → AttrsSoFar bytes front rest → attr_follows rest ≡ true → or_fault BadMark (attr_at (past is_space rest)) ≡ Ok (a, after) → AttrsSoFar bytes (front ++ a ∷ []) after
-attrs_go_on bytes front rest a after h follows e = attrs_more bytes front rest a after h follows (fault_some (attr_at (past is_space rest)) (a, after) e)
-
-pub attrs_shorten : (rest : List ℕ) (a : Attr) (after : List ℕ) → attr_follows rest ≡ true → or_fault BadMark (attr_at (past is_space rest)) ≡ Ok (a, after) → length after < length rest
-attrs_shorten rest a after follows e = attr_shortens rest (a, after) follows (fault_some (attr_at (past is_space rest)) (a, after) e)
-
-pub attrs_refused : (bytes : List ℕ) (front : List Attr) (rest : List ℕ) (kind : TagKind) → AttrsSoFar bytes front rest → attr_follows rest ≡ true → (kind ≡ Memory) ⊎ (or_fault BadMark (attr_at (past is_space rest)) ≡ Err kind) → (kind ≡ Memory) ⊎ (or_fault BadMark (attrs_at (length bytes) bytes) ≡ Err kind)
+pub attrs_refused : (bytes : List ℕ) (front : List Attr) (rest : List ℕ) (kind : TagKind) → AttrsSoFar bytes front rest → attr_follows rest ≡ true → (kind ≡ Memory) ⊎ (ok_or (attr_at (past is_space rest)) BadMark ≡ Err kind) → (kind ≡ Memory) ⊎ (ok_or (attrs_at (length bytes) bytes) BadMark ≡ Err kind)
 attrs_refused bytes front rest kind h follows (inl memory) = inl memory
 attrs_refused bytes front rest kind h follows (inr fault) =
-    let f = fault_none (attr_at (past is_space rest)) kind fault in
-    inr (rw (attrs_fail bytes front rest h follows f.none) (ap (λ (k : TagKind). Err k) f.is))
+    let f = found-err (attr_at (past is_space rest)) BadMark kind fault in
+    inr (rw (attrs_fail bytes front rest h follows f.1) (ap (λ (k : TagKind). Err k) f.0))
 
-pub attrs_done : (bytes : List ℕ) (front : List Attr) (rest : List ℕ) → AttrsSoFar bytes front rest → attr_follows rest ≡ false → or_fault BadMark (attrs_at (length bytes) bytes) ≡ Ok (front, rest)
+pub attrs_done : (bytes : List ℕ) (front : List Attr) (rest : List ℕ) → AttrsSoFar bytes front rest → attr_follows rest ≡ false → ok_or (attrs_at (length bytes) bytes) BadMark ≡ Ok (front, rest)
 attrs_done bytes front rest h follows = rw (attrs_end bytes front rest h follows) refl

@@ -6,13 +6,11 @@ use Rattle.std.proofs.lemmas.List.{length-append}
 use Rattle.rb_tags.specs.declared.read.TagKind.{TagKind}
 use Rattle.rb_tags.specs.declared.read.TagKind.TheVariants.{Doctype, Unclosed, BadMark}
 use Rattle.rb_tags.specs.declared.marks.StartTag.{StartTag}
-use Rattle.rb_tags.specs.Faults.{or_fault, ◌>>=◌}
 use Rattle.rb_tags.specs.References.{◌>?=◌}
 use Rattle.rb_tags.specs.Bytes.{after_front, after_first}
 use Rattle.rb_tags.specs.Marks.{Mark, start_in, end_in, tag_in, closing_at, tag_at, run_to, if_some, mark_at}
 use Rattle.rb_tags.specs.Grammar.{RunsTo, WrittenStart, IsStart, start_text, start_of, attr_text, WrittenEnd, IsEnd, WrittenMark, Instruction, Comment, Data, Start, End, IsMark, mark_text, mark_of_written}
 use Rattle.rb_tags.specs.BadMarks.{Begins, BeginsTag, Opened, IsBadMark}
-use Rattle.rb_tags.proofs.Results.{then_ok, found_ok, same_ok}
 use Rattle.rb_tags.proofs.Steps.{bind_some, some_is, front_takes}
 use Rattle.rb_tags.proofs.Closing.{closing_is}
 use Rattle.rb_tags.proofs.Closes.{not_front, Runs, first_takes, first_lacks, first_again}
@@ -20,6 +18,9 @@ use Rattle.rb_tags.proofs.Again.{start_inside, name_first}
 use Rattle.rb_tags.proofs.Over.{start_tag_again, end_tag_again}
 use Rattle.rb_tags.proofs.TagParts.{ends_found, ends_there}
 use Rattle.rb_tags.proofs.TakesTag.{slash, start_takes, end_takes}
+use Rattle.rb_result.specs.Steps.{◌>>=◌}
+use Rattle.std.specs.Option.{ok_or}
+use Rattle.rb_result.proofs.Results.{then-ok, found-ok, same_ok, found-err, then-err}
 
 -- a mark as it is written, and the bytes after it
 pub record TakesMark (bytes : List ℕ) (m : Mark) (rest : List ℕ) : Type 0 where
@@ -73,9 +74,9 @@ pair_is m n rest back e =
 -- a mark that runs to its closing bytes
 run_takes : (closing : List ℕ) (m n : Mark) (bytes rest : List ℕ) → run_to closing m bytes ≡ Ok (n, rest) → Runs closing bytes rest × (n ≡ m)
 run_takes closing m n bytes rest e =
-    let r = then_ok (or_fault Unclosed (after_first closing bytes)) (λ back. read_pair m back) (n, rest) e in
+    let r = then-ok (ok_or (after_first closing bytes) Unclosed) (λ back. read_pair m back) (n, rest) e in
     let is = pair_is m n r.0 rest r.2 in
-    let found : after_first closing bytes ≡ Some rest = found_ok Unclosed (after_first closing bytes) r.0 r.1 ∙ ap (λ (t : List ℕ). Some t) is.1 in
+    let found : after_first closing bytes ≡ Some rest = found-ok (after_first closing bytes) Unclosed r.0 r.1 ∙ ap (λ (t : List ℕ). Some t) is.1 in
     (first_takes closing bytes rest found, sym is.0)
 
 run_text : (opening closing bytes body after rest : List ℕ) → bytes ≡ opening ++ after → after ≡ body ++ (closing ++ rest) → 60 ∷ bytes ≡ ((60 ∷ opening) ++ (body ++ closing)) ++ rest
@@ -136,11 +137,11 @@ cut_at bytes n e =
 tag_written : (bytes : List ℕ) (m : Mark) (rest : List ℕ) → tag_at bytes ≡ Ok (m, rest) → TakesMark bytes m rest
 unfolding tag_at
 tag_written bytes m rest e =
-    let n = then_ok (or_fault Unclosed (closing_at None bytes)) (λ end. or_fault BadMark (tag_in (take end bytes)) >>= λ mark. Ok (mark, drop (suc end) bytes)) (m, rest) e in
-    let k = then_ok (or_fault BadMark (tag_in (take n.0 bytes))) (λ mark. read_pair mark (drop (suc n.0) bytes)) (m, rest) n.2 in
+    let n = then-ok (ok_or (closing_at None bytes) Unclosed) (λ end. ok_or (tag_in (take end bytes)) BadMark >>= λ mark. Ok (mark, drop (suc end) bytes)) (m, rest) e in
+    let k = then-ok (ok_or (tag_in (take n.0 bytes)) BadMark) (λ mark. read_pair mark (drop (suc n.0) bytes)) (m, rest) n.2 in
     let is = pair_is k.0 m (drop (suc n.0) bytes) rest k.2 in
-    let read : tag_in (take n.0 bytes) ≡ Some m = found_ok BadMark (tag_in (take n.0 bytes)) k.0 k.1 ∙ ap (λ (x : Mark). Some x) is.0 in
-    let cut : bytes ≡ take n.0 bytes ++ 62 ∷ rest = cut_at bytes n.0 (found_ok Unclosed (closing_at None bytes) n.0 n.1) ∙ ap (λ (t : List ℕ). take n.0 bytes ++ 62 ∷ t) is.1 in
+    let read : tag_in (take n.0 bytes) ≡ Some m = found-ok (tag_in (take n.0 bytes)) BadMark k.0 k.1 ∙ ap (λ (x : Mark). Some x) is.0 in
+    let cut : bytes ≡ take n.0 bytes ++ 62 ∷ rest = cut_at bytes n.0 (found-ok (closing_at None bytes) Unclosed n.0 n.1) ∙ ap (λ (t : List ℕ). take n.0 bytes ++ 62 ∷ t) is.1 in
     inside_written (take n.0 bytes) bytes rest m cut read
 
 sort_sound : (bytes : List ℕ) (m : Mark) (rest : List ℕ) → Sort bytes (Ok (m, rest)) → TakesMark bytes m rest
@@ -218,23 +219,10 @@ mark_complete (Data body) bytes rest h e = ap mark_at (behind bytes _ (e ∙ run
 mark_complete (Start s) bytes rest h e = ap mark_at (behind bytes _ (e ∙ sym (start_cut s rest))) ∙ start_mark_again s rest h
 mark_complete (End end) bytes rest h e = ap mark_at (behind bytes _ (e ∙ sym (end_regroup end.name end.after rest))) ∙ end_mark_again end rest h
 
-bind_err : {A B : Type 0} (r : Result A TagKind) (f : A → Result B TagKind) (kind : TagKind) → (r >>= f) ≡ Err kind → (r ≡ Err kind) ⊎ ((x : A) × (r ≡ Ok x) × (f x ≡ Err kind))
-bind_err (Ok x) f kind e = inr (x, refl, e)
-bind_err (Err d) f kind e = let same : d ≡ kind = cc in inl (ap (λ (k : TagKind). Err k) same)
-
--- what is not there, and the kind of the fault
-record IsFault {A : Type 0} (o : Option A) (kind k : TagKind) : Type 0 where
-  none : o ≡ None
-  is : kind ≡ k
-
-fault_none : {A : Type 0} (kind : TagKind) (o : Option A) (k : TagKind) → or_fault kind o ≡ Err k → IsFault o kind k
-fault_none kind (Some y) k e = absurd cc
-fault_none kind None k e = record { none = refl; is = cc }
-
 run_refused : (opening closing bytes rest : List ℕ) (m : Mark) (kind : TagKind) → bytes ≡ opening ++ rest → run_to closing m rest ≡ Err kind → Opened opening closing bytes × (Unclosed ≡ kind)
 run_refused opening closing bytes rest m kind text e =
-    elim (bind_err (or_fault Unclosed (after_first closing rest)) (λ back. read_pair m back) kind e) [
-      | inl f ↦ let is = fault_none Unclosed (after_first closing rest) kind f in (record { rest = rest; text = text; never = first_lacks closing rest is.none }, is.is)
+    elim (then-err (ok_or (after_first closing rest) Unclosed) (λ back. read_pair m back) kind e) [
+      | inl f ↦ let is = found-err (after_first closing rest) Unclosed kind f in (record { rest = rest; text = text; never = first_lacks closing rest is.1 }, is.0)
       | inr f ↦ let wrong = f.2 in absurd cc
     ]
 
@@ -245,15 +233,15 @@ never_read bytes kind e w rest h text = let read = mark_complete w bytes rest h 
 tag_refused : (bytes : List ℕ) (kind : TagKind) → BeginsTag bytes → mark_at bytes ≡ Err kind → tag_at bytes ≡ Err kind → IsBadMark bytes kind
 unfolding tag_at
 tag_refused bytes kind begins whole e =
-    elim (bind_err (or_fault Unclosed (closing_at None bytes)) (λ end. or_fault BadMark (tag_in (take end bytes)) >>= λ mark. Ok (mark, drop (suc end) bytes)) kind e) [
+    elim (then-err (ok_or (closing_at None bytes) Unclosed) (λ end. ok_or (tag_in (take end bytes)) BadMark >>= λ mark. Ok (mark, drop (suc end) bytes)) kind e) [
       | inl f ↦
-          let is = fault_none Unclosed (closing_at None bytes) kind f in
-          subst (λ (k : TagKind). IsBadMark bytes k) is.is (inr (inr (inr (record { tag = begins; never = ends_found bytes is.none }))))
+          let is = found-err (closing_at None bytes) Unclosed kind f in
+          subst (λ (k : TagKind). IsBadMark bytes k) is.0 (inr (inr (inr (record { tag = begins; never = ends_found bytes is.1 }))))
       | inr f ↦
-          elim (bind_err (or_fault BadMark (tag_in (take f.0 bytes))) (λ mark. read_pair mark (drop (suc f.0) bytes)) kind f.2) [
+          elim (then-err (ok_or (tag_in (take f.0 bytes)) BadMark) (λ mark. read_pair mark (drop (suc f.0) bytes)) kind f.2) [
             | inl g ↦
-                let is = fault_none BadMark (tag_in (take f.0 bytes)) kind g in
-                subst (λ (k : TagKind). IsBadMark bytes k) is.is (record { tag = begins; ends = ends_there bytes f.0 (found_ok Unclosed (closing_at None bytes) f.0 f.1); never = never_read bytes kind whole })
+                let is = found-err (tag_in (take f.0 bytes)) BadMark kind g in
+                subst (λ (k : TagKind). IsBadMark bytes k) is.0 (record { tag = begins; ends = ends_there bytes f.0 (found-ok (closing_at None bytes) Unclosed f.0 f.1); never = never_read bytes kind whole })
             | inr g ↦ let wrong = g.2 in absurd cc
           ]
     ]

@@ -4,24 +4,17 @@ use Rattle.std.specs.List.{take_while, list_all}
 use Rattle.std.proofs.lemmas.Bool.{eqb-true}
 use Rattle.rb_tags.specs.declared.tag.Tag.{Tag}
 use Rattle.rb_tags.specs.declared.read.TagFault.{TagFault}
-use Rattle.rb_tags.specs.declared.read.TagKind.{TagKind}
 use Rattle.rb_tags.specs.declared.read.TagKind.TheVariants.{BadMark}
-use Rattle.rb_tags.specs.Faults.{no_memory, fault_at, ◌>>=◌}
+use Rattle.rb_tags.specs.Faults.{no_memory, fault_at}
 use Rattle.rb_tags.specs.Bytes.{is_space, is_text_byte, past, after_front, if_more}
 use Rattle.rb_tags.specs.Marks.{Mark, mark_at}
-use Rattle.rb_tags.specs.Seen.{Seen, nothing_seen, marked, marked_at, placed, read_mark, read_text, finished}
+use Rattle.rb_tags.specs.Seen.{Seen, nothing_seen, marked, marked_at, read_mark, read_text, finished}
 use Rattle.rb_tags.specs.Tags.{tags_from, behind_order_mark, order_mark, tags_of_text}
-use Rattle.rb_tags.proofs.Results.{then_ok, fine, same_ok, passed_test}
 use Rattle.rb_tags.proofs.Runs.{Stops, past_stops}
 use Rattle.rb_tags.proofs.Steps.{past-length, front_takes}
 use Rattle.rb_tags.proofs.MarkLaws.{mark_shortens}
-
-placed_ok : {A : Type 0} (place : ℕ) (r : Result A TagKind) (x : A) → placed place r ≡ Ok x → r ≡ Ok x
-placed_ok place (Ok y) x e = e2 y x (same_ok y x e)
-  where
-    e2 : {A : Type 0} (y x : A) → y ≡ x → fine {E = TagKind} y ≡ fine x
-    e2 y x same = cc
-placed_ok place (Err k) x e = absurd cc
+use Rattle.rb_result.specs.Steps.{◌>>=◌}
+use Rattle.rb_result.proofs.Results.{then-ok, unless-ok, same_ok, placed-ok}
 
 -- what a mark is read as, and what was seen then
 pub record ReadsMark (seen : Seen) (place : ℕ) (bytes : List ℕ) (now : Seen) (rest : List ℕ) : Type 0 where
@@ -32,8 +25,8 @@ pub record ReadsMark (seen : Seen) (place : ℕ) (bytes : List ℕ) (now : Seen)
 pub reads_mark : (seen : Seen) (place : ℕ) (bytes : List ℕ) (now : Seen) (rest : List ℕ) → read_mark seen place bytes ≡ Ok (now, rest) → ReadsMark seen place bytes now rest
 unfolding read_mark marked_at
 reads_mark seen place bytes now rest e =
-    let m = then_ok (mark_at bytes) (λ mark. marked seen place mark.0 >>= λ now. Ok (now, mark.1)) (now, rest) (placed_ok place (marked_at seen place bytes) (now, rest) e) in
-    let n = then_ok (marked seen place m.0.0) (λ now. Ok (now, m.0.1)) (now, rest) m.2 in
+    let m = then-ok (mark_at bytes) (λ mark. marked seen place mark.0 >>= λ now. Ok (now, mark.1)) (now, rest) (placed-ok fault_at place (marked_at seen place bytes) (now, rest) e) in
+    let n = then-ok (marked seen place m.0.0) (λ now. Ok (now, m.0.1)) (now, rest) m.2 in
     let made : Seen × List ℕ = (n.0, m.0.1) in
     let same : made ≡ (now, rest) = same_ok made (now, rest) n.2 in
     let now_is : n.0 ≡ now = ap (λ (y : Seen × List ℕ). y.0) same in
@@ -51,7 +44,7 @@ pub text_rest : (seen : Seen) (place : ℕ) (bytes rest : List ℕ) → read_tex
 unfolding read_text
 text_rest seen place bytes rest e =
     let text = take_while is_text_byte bytes in
-    let t = passed_test (eqb (length seen.open_elements) 0 && not (list_all is_space text)) (fault_at BadMark (place + length (take_while is_space text))) (Ok (past is_text_byte bytes)) rest e in
+    let t = unless-ok (eqb (length seen.open_elements) 0 && not (list_all is_space text)) (fault_at BadMark (place + length (take_while is_space text))) (Ok (past is_text_byte bytes)) rest e in
     sym (same_ok (past is_text_byte bytes) rest t.1)
 
 -- after text there is a mark or nothing

@@ -8,8 +8,9 @@ use Rattle.std.proofs.lemmas.Bool.{cases_lt}
 use Rattle.std.proofs.lemmas.List.{take_all}
 use Rattle.rb_tags.specs.declared.read.TagFault.{TagFault}
 use Rattle.rb_tags.specs.declared.read.TagKind.TheVariants.{NotUtf8}
-use Rattle.rb_tags.specs.Faults.{no_memory, fault_at, Gives}
+use Rattle.rb_tags.specs.Faults.{no_memory, fault_at}
 use Rattle.rb_tags.specs.Tags.{tags_of, tags_of_text}
+use Rattle.rb_result.specs.Steps.{Gives}
 
 pub tags_of_utf8 : (bytes : List ℕ) → IsUtf8 bytes → tags_of bytes ≡ tags_of_text bytes
 unfolding tags_of
@@ -59,11 +60,11 @@ valid_up_to bytes other =
     }
 
 -- what is answered
-pub answers_ok : {X Y : Type 0} (view : X → Y) (r : Result X TagFault) (read whole : Result Y TagFault) → Gives view r read → whole ≡ read → IfOk r (λ x. whole ≡ Ok (view x))
+pub answers_ok : {X Y : Type 0} (view : X → Y) (r : Result X TagFault) (read whole : Result Y TagFault) → Gives no_memory view r read → whole ≡ read → IfOk r (λ x. whole ≡ Ok (view x))
 answers_ok view (Ok x) read whole given same = same ∙ given
 answers_ok view (Err e) read whole given same = tt
 
-pub answers_err : {X Y : Type 0} (view : X → Y) (r : Result X TagFault) (read whole : Result Y TagFault) → Gives view r read → whole ≡ read → IfErr r (λ e. (e ≡ no_memory) ⊎ (whole ≡ Err e))
+pub answers_err : {X Y : Type 0} (view : X → Y) (r : Result X TagFault) (read whole : Result Y TagFault) → Gives no_memory view r read → whole ≡ read → IfErr r (λ e. (e ≡ no_memory) ⊎ (whole ≡ Err e))
 answers_err view (Ok x) read whole given same = tt
 answers_err view (Err e) read whole (inl memory) same = inl memory
 answers_err view (Err e) read whole (inr fault) same = inr (same ∙ fault)

@@ -10,11 +10,11 @@ use Rattle.std.proofs.lemmas.Bool.{eqb-true}
 use Rattle.std.proofs.Math.Seq.{drop-length, drop-cons}
 use Rattle.std.proofs.lemmas.List.Sums.{prefix_len_stops}
 use Rattle.rb_tags.specs.declared.read.TagKind.{TagKind}
-use Rattle.rb_tags.specs.declared.read.TagKind.TheVariants.{BadMark}
-use Rattle.rb_tags.specs.Faults.{GivesKind, or_fault}
+use Rattle.rb_tags.specs.declared.read.TagKind.TheVariants.{BadMark, Memory}
 use Rattle.rb_tags.specs.Bytes.{is_plain_byte, is_reference_byte, past, after_front, if_more}
 use Rattle.rb_tags.specs.References.{◌>?=◌, reference_of, reference_at, value_within, value_of}
 use Rattle.rb_tags.proofs.Steps.{bind_some, run_split, front_of_one}
+use Rattle.rb_result.specs.Steps.{Gives}
 
 -- a reference as it is read, from after its &
 pub record TakesReference (bytes : List ℕ) (read : List ℕ × List ℕ) : Type 0 where
@@ -133,15 +133,15 @@ reads_reference r bytes character after e is = sym e ∙ ap (λ (o : Option (ℕ
 pub reads_none : (r : Option (ℕ × Bor (List ℕ))) (bytes : List ℕ) → option_map (λ x. (encode_utf8 x.0, x.1.now)) r ≡ reference_at bytes → r ≡ None → reference_at bytes ≡ None
 reads_none r bytes e is = sym e ∙ ap (λ (o : Option (ℕ × Bor (List ℕ))). option_map (λ x. (encode_utf8 x.0, x.1.now)) o) is
 
-pub gives_refused : {A : Type 0} (r : Result (List ℕ) TagKind) (given kind : TagKind) (o : Option A) (text : List ℕ) → r ≡ Err given → given ≡ kind → Err kind ≡ ok_or o BadMark → o ≡ None → value_of text ≡ None → GivesKind (λ x. x) r (or_fault BadMark (value_of text))
+pub gives_refused : {A : Type 0} (r : Result (List ℕ) TagKind) (given kind : TagKind) (o : Option A) (text : List ℕ) → r ≡ Err given → given ≡ kind → Err kind ≡ ok_or o BadMark → o ≡ None → value_of text ≡ None → Gives Memory (λ x. x) r (ok_or (value_of text) BadMark)
 gives_refused {A = A} (Ok x) given kind o text is same e none refused = absurd cc
 gives_refused {A = A} (Err k) given kind o text is same e none refused =
     let bad : k ≡ BadMark = by_none o e none in
-    inr (ap (λ (v : Option (List ℕ)). or_fault BadMark v) refused ∙ ap (λ (k : TagKind). Err k) (sym bad))
+    inr (ap (λ (v : Option (List ℕ)). ok_or v BadMark) refused ∙ ap (λ (k : TagKind). Err k) (sym bad))
   where
     by_none : (w : Option A) → Err kind ≡ ok_or w BadMark → w ≡ None → k ≡ BadMark
     by_none None e none = cc
     by_none (Some x) e none = absurd cc
 
-pub gives_value : (text said rest value : List ℕ) → value_of text ≡ Some (said ++ rest) → value ≡ said ++ rest → or_fault BadMark (value_of text) ≡ Ok value
-gives_value text said rest value e is = ap (λ (v : Option (List ℕ)). or_fault BadMark v) (e ∙ ap (λ (v : List ℕ). Some v) (sym is))
+pub gives_value : (text said rest value : List ℕ) → value_of text ≡ Some (said ++ rest) → value ≡ said ++ rest → ok_or (value_of text) BadMark ≡ Ok value
+gives_value text said rest value e is = ap (λ (v : Option (List ℕ)). ok_or v BadMark) (e ∙ ap (λ (v : List ℕ). Some v) (sym is))

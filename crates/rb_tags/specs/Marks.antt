@@ -5,9 +5,10 @@ use Rattle.rb_tags.specs.declared.read.TagKind.{TagKind}
 use Rattle.rb_tags.specs.declared.read.TagKind.TheVariants.{Doctype, Unclosed, BadMark}
 use Rattle.rb_tags.specs.declared.tag.Attr.{Attr}
 use Rattle.rb_tags.specs.declared.marks.StartTag.{StartTag}
-use Rattle.rb_tags.specs.Faults.{or_fault, ◌>>=◌}
 use Rattle.rb_tags.specs.Bytes.{is_space, is_name_byte, is_value_byte, is_quote, past, after_front, after_first}
 use Rattle.rb_tags.specs.References.{value_of, ◌>?=◌}
+use Rattle.rb_result.specs.Steps.{◌>>=◌}
+use Rattle.std.specs.Option.{ok_or}
 
 -- some bytes, the first of which is neither ! nor ?
 abbrev pub begins_name : List ℕ → Bool
@@ -105,13 +106,13 @@ closing_at quote (b ∷ bs) = if ends_tag quote b then Some 0 else (closing_at (
 
 unfoldable pub tag_at : List ℕ → Result (Mark × List ℕ) TagKind
 tag_at bytes = do
-  end ← or_fault Unclosed (closing_at None bytes)
-  mark ← or_fault BadMark (tag_in (take end bytes))
+  end ← ok_or (closing_at None bytes) Unclosed
+  mark ← ok_or (tag_in (take end bytes)) BadMark
   Ok (mark, drop (suc end) bytes)
 
 -- a mark that runs to its closing bytes
 abbrev pub run_to : List ℕ → Mark → List ℕ → Result (Mark × List ℕ) TagKind
-run_to closing mark bytes = or_fault Unclosed (after_first closing bytes) >>= λ rest. Ok (mark, rest)
+run_to closing mark bytes = ok_or (after_first closing bytes) Unclosed >>= λ rest. Ok (mark, rest)
 
 -- the mark at the front, from after its <
 unfoldable pub mark_at : List ℕ → Result (Mark × List ℕ) TagKind

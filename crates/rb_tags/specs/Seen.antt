@@ -9,9 +9,10 @@ use Rattle.rb_tags.specs.declared.tag.Attr.{Attr}
 use Rattle.rb_tags.specs.declared.tag.Tag.{Tag}
 use Rattle.rb_tags.specs.declared.marks.StartTag.{StartTag}
 pub use Rattle.rb_tags.specs.declared.reader.OpenElement.{OpenElement}
-use Rattle.rb_tags.specs.Faults.{fault_at, ◌>>=◌}
+use Rattle.rb_tags.specs.Faults.{fault_at}
 use Rattle.rb_tags.specs.Bytes.{is_space, is_text_byte, past}
 use Rattle.rb_tags.specs.Marks.{Mark, mark_at}
+use Rattle.rb_result.specs.Steps.{◌>>=◌, placed}
 
 -- the start tags so far, and the open elements, the innermost first
 pub record Seen : Type 0 where
@@ -72,13 +73,8 @@ marked seen place (Mark.End name) = ended seen name
 unfoldable pub marked_at : Seen → ℕ → List ℕ → Result (Seen × List ℕ) TagKind
 marked_at seen place bytes = mark_at bytes >>= λ mark. marked seen place mark.0 >>= λ now. Ok (now, mark.1)
 
--- the kind of a fault, with its place
-abbrev pub placed : {A : Type 0} → ℕ → Result A TagKind → Result A TagFault
-placed place (Ok x) = Ok x
-placed place (Err kind) = Err (fault_at kind place)
-
 unfoldable pub read_mark : Seen → ℕ → List ℕ → Result (Seen × List ℕ) TagFault
-read_mark seen place bytes = placed place (marked_at seen place bytes)
+read_mark seen place bytes = placed fault_at place (marked_at seen place bytes)
 
 -- text before a mark: outside the outermost element it is white space
 unfoldable pub read_text : Seen → ℕ → List ℕ → Result (List ℕ) TagFault

@@ -7,8 +7,9 @@ use Rattle.rb_tags.specs.declared.read.TagFault.{TagFault}
 use Rattle.rb_tags.specs.declared.read.TagKind.TheVariants.{NotUtf8}
 use Rattle.rb_tags.specs.Bytes.{after_front, if_more}
 use Rattle.rb_tags.specs.Seen.{Seen, nothing_seen, read_text, read_mark, finished}
-use Rattle.rb_tags.specs.Faults.{fault_at, ◌>>=◌}
+use Rattle.rb_tags.specs.Faults.{fault_at}
 pub use Rattle.rb_tags.specs.Faults.{no_memory}
+use Rattle.rb_result.specs.Steps.{◌>>=◌}
 
 -- the tags of a file of a size, of which what is left holds fewer marks than so many
 unfoldable pub tags_from : ℕ → ℕ → Seen → List ℕ → Result (List Tag) TagFault

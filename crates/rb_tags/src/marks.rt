@@ -1,11 +1,11 @@
 // Marks, each from after its `<`.
 ghost use Rattle.std.specs.Prelude.{◌≡◌, None, length};
-ghost use Rattle.std.specs.Option.{option_map, option_copied};
-ghost use Rattle.rb_tags.specs.declared.read.TagKind.TheVariants.{BadMark, Unclosed};
+ghost use Rattle.std.specs.Option.{option_map, option_copied, ok_or};
+ghost use Rattle.rb_tags.specs.declared.read.TagKind.TheVariants.{BadMark, Unclosed, Memory};
 ghost use Rattle.rb_tags.specs.Bytes.{quote_byte, after_first};
-ghost use Rattle.rb_tags.specs.Faults.{GivesKind, or_fault};
 ghost use Rattle.rb_tags.specs.Marks.{name_at, opening_at, quoted_at, attr_at, attr_follows, attrs_at, ending_of, start_in, end_in, tag_in, quote_after, ends_tag, closing_at, tag_at, mark_at};
 ghost use Rattle.rb_tags.specs.Views.{mark_of};
+ghost use Rattle.rb_result.specs.Steps.{Gives};
 
 use crate::bytes::{Class, Quote, past_first, past_front};
 use crate::read::TagKind;
@@ -62,7 +62,7 @@ fn opening(text: &str) -> Option<(Quote, &str)>
 /// The value in quotes at the front, and the text after it.
 #[tactic(auto, unfolding(crate::specs::Marks::quoted_at))]
 fn quoted(alloc: Global, text: &str) -> Result<(Text, &str), TagKind>
-    ensures { GivesKind (λ x. (x.0, x.1.now)) result (or_fault BadMark (quoted_at text.now)) }
+    ensures { Gives Memory (λ x. (x.0, x.1.now)) result (ok_or (quoted_at text.now) BadMark) }
 {
     let Some((quote, text)) = opening(text) else {
         return Err(TagKind::BadMark);
@@ -78,7 +78,7 @@ fn quoted(alloc: Global, text: &str) -> Result<(Text, &str), TagKind>
 /// The attribute at the front, and the text after it.
 #[tactic(auto, unfolding(crate::specs::Marks::attr_at))]
 fn attribute(alloc: Global, text: &str) -> Result<(Attr, &str), TagKind>
-    ensures { GivesKind (λ x. (x.0, x.1.now)) result (or_fault BadMark (attr_at text.now)) }
+    ensures { Gives Memory (λ x. (x.0, x.1.now)) result (ok_or (attr_at text.now) BadMark) }
 {
     let Some((name, rest)) = name(text) else {
         return Err(TagKind::BadMark);
@@ -103,7 +103,7 @@ fn attribute_follows(text: &str) -> bool
 
 /// The attributes at the front, each after white space, and the text after them.
 fn attributes(alloc: Global, text: &str) -> Result<(AttrList, &str), TagKind>
-    ensures { GivesKind (λ x. (x.0, x.1.now)) result (or_fault BadMark (attrs_at (length text.now) text.now)) }
+    ensures { Gives Memory (λ x. (x.0, x.1.now)) result (ok_or (attrs_at (length text.now) text.now) BadMark) }
 {
     let mut attrs = Vec::new(alloc);
     let mut rest = text;
@@ -130,7 +130,7 @@ fn ending(text: &str) -> Option<bool>
 /// The start tag, from all that stands between its `<` and its `>`.
 #[tactic(auto, unfolding(crate::specs::Marks::start_in))]
 fn start_in(alloc: Global, inside: &str) -> Result<StartTag, TagKind>
-    ensures { GivesKind (λ x. x) result (or_fault BadMark (start_in inside.now)) }
+    ensures { Gives Memory (λ x. x) result (ok_or (start_in inside.now) BadMark) }
 {
     let Some((name, rest)) = name(inside) else {
         return Err(TagKind::BadMark);
@@ -163,7 +163,7 @@ fn end_in(inside: &str) -> Option<&str>
 /// The tag, from all that stands between its `<` and its `>`.
 #[tactic(auto, unfolding(crate::specs::Marks::tag_in))]
 fn tag_in(alloc: Global, inside: &str) -> Result<ReadMark<'_>, TagKind>
-    ensures { GivesKind mark_of result (or_fault BadMark (tag_in inside.now)) }
+    ensures { Gives Memory mark_of result (ok_or (tag_in inside.now) BadMark) }
 {
     let Some(rest) = past_front("/", inside) else {
         return Ok(ReadMark::Start(start_in(alloc, inside)?));
@@ -212,7 +212,7 @@ fn closing(text: &str) -> Option<usize>
 /// The tag at the front, from after its `<`, and the text after it.
 #[tactic(auto, unfolding(crate::specs::Marks::tag_at))]
 fn tag<'b>(alloc: Global, text: &'b str) -> Result<(ReadMark<'b>, &'b str), TagKind>
-    ensures { GivesKind (λ x. (mark_of x.0, x.1.now)) result (tag_at text.now) }
+    ensures { Gives Memory (λ x. (mark_of x.0, x.1.now)) result (tag_at text.now) }
 {
     let Some(end) = closing(text) else {
         return Err(TagKind::Unclosed);
@@ -223,7 +223,7 @@ fn tag<'b>(alloc: Global, text: &'b str) -> Result<(ReadMark<'b>, &'b str), TagK
 
 /// The text after the closing text of a mark.
 fn past_closing<'b>(closing: &str, text: &'b str) -> Result<&'b str, TagKind>
-    ensures { GivesKind (λ rest. rest.now) result (or_fault Unclosed (after_first closing.now text.now)) }
+    ensures { Gives Memory (λ rest. rest.now) result (ok_or (after_first closing.now text.now) Unclosed) }
 {
     past_first(closing, text).ok_or(TagKind::Unclosed)
 }
@@ -232,7 +232,7 @@ fn past_closing<'b>(closing: &str, text: &'b str) -> Result<&'b str, TagKind>
 /// `Unclosed`, and a tag that does not fit `BadMark`.
 #[tactic(auto, unfolding(crate::specs::Marks::mark_at))]
 pub fn mark<'b>(alloc: Global, text: &'b str) -> Result<(ReadMark<'b>, &'b str), TagKind>
-    ensures { GivesKind (λ x. (mark_of x.0, x.1.now)) result (mark_at text.now) }
+    ensures { Gives Memory (λ x. (mark_of x.0, x.1.now)) result (mark_at text.now) }
 {
     if let Some(rest) = past_front("?", text) {
         return Ok((ReadMark::Passed, past_closing("?>", rest)?));

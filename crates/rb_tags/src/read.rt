@@ -1,7 +1,7 @@
 ghost use Rattle.std.specs.Prelude.{◌≡◌, IfOk, IfErr, Ok, Err, ◌⊎◌};
-ghost use Rattle.rb_tags.specs.Faults.{Gives};
 ghost use Rattle.rb_tags.specs.Tags.{tags_of, tags_of_text, no_memory};
 ghost use Rattle.rb_tags.specs.declared.read.TagKind.TheVariants.{Memory};
+ghost use Rattle.rb_result.specs.Steps.{Gives};
 
 use crate::bytes::past_front;
 use crate::reader::Reader;
@@ -77,7 +77,7 @@ pub fn read_tags(alloc: Global, bytes: &[u8]) -> Result<Tags, TagFault>
 
 /// The start tags of a text, or its first fault.
 fn read_text(alloc: Global, text: &str) -> Result<Tags, TagFault>
-    ensures { Gives (λ tags. tags) result (tags_of_text text.now) }
+    ensures { Gives no_memory (λ tags. tags) result (tags_of_text text.now) }
 {
     let size = text.len();
     let mut reader = Reader::new(alloc);

@@ -1,7 +1,9 @@
 ghost use Rattle.std.specs.Prelude.{◌≡◌, ◌+◌, ◌^◌, ◌<◌, ◌≤◌, length, All};
-ghost use Rattle.rb_tags.specs.Faults.{Gives, GivesKind, placed_kind};
+ghost use Rattle.rb_tags.specs.Faults.{placed_kind, no_memory};
 ghost use Rattle.rb_tags.specs.Seen.{nothing_seen, with_tag, started, ended, with_data, marked, marked_at, read_mark, read_text, finished};
 ghost use Rattle.rb_tags.specs.Kept.{IsReadTag, HasDistinctNames};
+ghost use Rattle.rb_result.specs.Steps.{Gives};
+ghost use Rattle.rb_tags.specs.declared.read.TagKind.TheVariants.{Memory};
 
 use crate::bytes::Class;
 use crate::marks::{ReadMark, StartTag, mark};
@@ -59,7 +61,7 @@ impl Reader {
     /// Takes a start tag whose `<` is at a place.
     #[tactic(auto, using(crate::proofs::Distinct::distinct_holds), unfolding(crate::specs::Seen::started))]
     fn start(&mut self, alloc: Global, place: u64, start: StartTag) -> Result<(), TagKind>
-        ensures { GivesKind (λ _. seen_of self.new) result (started (seen_of self.old) place start) }
+        ensures { Gives Memory (λ _. seen_of self.new) result (started (seen_of self.old) place start) }
     {
         let depth = self.open.len();
         if depth == 0 && !self.tags.is_empty() {
@@ -88,7 +90,7 @@ impl Reader {
         requires shallow { length (seen_of self.old).open_elements < 64 }
         requires room { length (seen_of self.old).tags < 262144 }
         requires distinct { HasDistinctNames start.attrs }
-        ensures { GivesKind (λ _. seen_of self.new) result (Ok (with_tag (seen_of self.old) place start)) }
+        ensures { Gives Memory (λ _. seen_of self.new) result (Ok (with_tag (seen_of self.old) place start)) }
     {
         self.tags.push(Tag {
             name: start.name,
@@ -102,7 +104,7 @@ impl Reader {
     /// Takes an end tag.
     #[tactic(auto, unfolding(crate::specs::Seen::ended))]
     fn end(&mut self, name: &str) -> Result<(), TagKind>
-        ensures { GivesKind (λ _. seen_of self.new) result (ended (seen_of self.old) name.now) }
+        ensures { Gives Memory (λ _. seen_of self.new) result (ended (seen_of self.old) name.now) }
     {
         match self.open.pop() {
             Some(innermost) if innermost.name.as_str() == name => Ok(()),
@@ -113,7 +115,7 @@ impl Reader {
     /// Takes a section of data, which stands only inside an element.
     #[tactic(auto, unfolding(crate::specs::Seen::with_data))]
     fn data(&self) -> Result<(), TagKind>
-        ensures { GivesKind (λ _. seen_of self.now) result (with_data (seen_of self.now)) }
+        ensures { Gives Memory (λ _. seen_of self.now) result (with_data (seen_of self.now)) }
     {
         if self.open.is_empty() {
             return Err(TagKind::BadMark);
@@ -123,7 +125,7 @@ impl Reader {
 
     /// Takes a mark whose `<` is at a place.
     fn take(&mut self, alloc: Global, place: u64, read: ReadMark<'_>) -> Result<(), TagKind>
-        ensures { GivesKind (λ _. seen_of self.new) result (marked (seen_of self.old) place (mark_of read.entry)) }
+        ensures { Gives Memory (λ _. seen_of self.new) result (marked (seen_of self.old) place (mark_of read.entry)) }
     {
         match read {
             ReadMark::Passed => Ok(()),
@@ -141,7 +143,7 @@ impl Reader {
         place: u64,
         text: &'b str,
     ) -> Result<&'b str, TagKind>
-        ensures { GivesKind (λ rest. (seen_of self.new, rest.now)) result (marked_at (seen_of self.old) place text.now) }
+        ensures { Gives Memory (λ rest. (seen_of self.new, rest.now)) result (marked_at (seen_of self.old) place text.now) }
     {
         let (read, rest) = mark(alloc, text)?;
         self.take(alloc, place, read)?;
@@ -156,7 +158,7 @@ impl Reader {
         place: u64,
         text: &'b str,
     ) -> Result<&'b str, TagFault>
-        ensures { Gives (λ rest. (seen_of self.new, rest.now)) result (read_mark (seen_of self.old) place text.now) }
+        ensures { Gives no_memory (λ rest. (seen_of self.new, rest.now)) result (read_mark (seen_of self.old) place text.now) }
     {
         match self.take_mark(alloc, place, text) {
             Ok(rest) => Ok(rest),
@@ -168,7 +170,7 @@ impl Reader {
     #[tactic(auto, unfolding(crate::specs::Seen::read_text))]
     pub fn text<'b>(&self, place: u64, text: &'b str) -> Result<&'b str, TagFault>
         requires { place + length text.now < 2 ^ 64 }
-        ensures { Gives (λ rest. rest.now) result (read_text (seen_of self.now) place text.now) }
+        ensures { Gives no_memory (λ rest. rest.now) result (read_text (seen_of self.now) place text.now) }
     {
         let (before, rest) = Class::Text.run(text);
         let (space, other) = Class::Space.run(before);
@@ -184,7 +186,7 @@ impl Reader {
     /// The tags, at the end of a file of a size.
     #[tactic(auto, unfolding(crate::specs::Seen::finished))]
     pub fn finish(self, size: u64) -> Result<Tags, TagFault>
-        ensures { Gives (λ tags. tags) result (finished (seen_of self) size) }
+        ensures { Gives no_memory (λ tags. tags) result (finished (seen_of self) size) }
     {
         if let Some(innermost) = self.open.last() {
             return Err(TagFault {

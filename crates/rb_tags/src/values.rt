@@ -1,11 +1,11 @@
 // The values of attributes, and the references in them.
 ghost use Rattle.std.specs.Prelude.{◌≡◌, ◌≤◌, [], ◌∷◌, MatchOption, take_while};
-ghost use Rattle.std.specs.Option.{option_map};
+ghost use Rattle.std.specs.Option.{option_map, ok_or};
 ghost use Rattle.std.specs.Char.{encode_utf8};
-ghost use Rattle.rb_tags.specs.declared.read.TagKind.TheVariants.{BadMark};
+ghost use Rattle.rb_tags.specs.declared.read.TagKind.TheVariants.{BadMark, Memory};
 ghost use Rattle.rb_tags.specs.Bytes.{is_plain_byte, past};
-ghost use Rattle.rb_tags.specs.Faults.{GivesKind, or_fault};
 ghost use Rattle.rb_tags.specs.References.{character_of, number_of, entity_of, reference_of, reference_at, value_of};
+ghost use Rattle.rb_result.specs.Steps.{Gives};
 
 use crate::bytes::{Class, past_front};
 use crate::read::TagKind;
@@ -83,7 +83,7 @@ fn split_reference(text: &str) -> Option<(&str, &str)>
 
 /// What a value says, with its references replaced. Refused as `BadMark` where an `&` begins no reference.
 pub fn value(alloc: Global, text: &str) -> Result<Text, TagKind>
-    ensures { GivesKind (λ x. x) result (or_fault BadMark (value_of text.now)) }
+    ensures { Gives Memory (λ x. x) result (ok_or (value_of text.now) BadMark) }
 {
     let mut said = String::with_capacity(alloc, text.len())?;
     let mut rest = text;

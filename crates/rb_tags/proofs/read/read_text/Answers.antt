@@ -5,10 +5,11 @@ use Rattle.rb_tags.specs.declared.tag.Tag.{Tag}
 use Rattle.rb_tags.specs.Bytes.{after_front}
 use Rattle.std.specs.Option.{option_copied, unwrap_or}
 use Rattle.rb_tags.specs.Tags.{order_mark, behind_order_mark}
-use Rattle.rb_tags.specs.Faults.{Gives}
 use Rattle.rb_tags.specs.Views.{seen_of}
 use Rattle.rb_tags.proofs.SoFar.{left_begin, text_more, text_refused, mark_begins, mark_more, mark_refused, left_end, read_no_longer}
 use Rattle.rb_tags.proofs.read.read_text.Goals as goal
+use Rattle.rb_result.specs.Steps.{Gives}
+use Rattle.rb_tags.specs.Faults.{no_memory}
 
 pub overflow_sub-size : goal.overflow_sub-size
 overflow_sub-size c = let h = c.loop-reader.invariant.1 in h.within
@@ -32,7 +33,7 @@ pub returns-in_default : goal.returns-in_default
 returns-in_default c =
     let h = text_more c.args.text.now (seen_of c.loop-reader.reader) c.loop-reader.left.now c.in_ok-rest.rest.now c.loop-reader.invariant.1 c.in_ok-rest.ensures in
     let none : after_front (codes "<") c.in_ok-rest.rest.now ≡ None = sym c.in_default.ensures in
-    subst (λ (r : Result (List Tag) TagFault). Gives (λ tags. tags) c.finish.result r) (left_end c.args.text.now (seen_of c.loop-reader.reader) c.loop-reader.left.now c.in_ok-rest.rest.now h none) c.finish.ensures
+    subst (λ (r : Result (List Tag) TagFault). Gives no_memory (λ tags. tags) c.finish.result r) (left_end c.args.text.now (seen_of c.loop-reader.reader) c.loop-reader.left.now c.in_ok-rest.rest.now h none) c.finish.ensures
 
 pub returns-in_err-left : goal.returns-in_err-left
 returns-in_err-left c =
