@@ -6,6 +6,7 @@ use Rattle.std.proofs.lemmas.Str.{utf8_valid_len-IsValidUpTo}
 use Rattle.std.proofs.lemmas.Slice.Eq.{bytes_eq-Decides}
 use Rattle.std.proofs.lemmas.List.{length-append, append-nil, nil_from_length, take_all}
 use Rattle.std.proofs.lemmas.List.Elements.{All-head, All-tail}
+use Rattle.rb_tags.specs.declared.tag.TheConstants.{MAX_DEPTH, MAX_TAGS}
 use Rattle.rb_tags.specs.declared.tag.Tag.{Tag}
 use Rattle.rb_tags.specs.declared.read.TagFault.{TagFault}
 use Rattle.rb_tags.specs.declared.read.TagKind.{TagKind}
@@ -163,7 +164,7 @@ twice_wrong seen at s inner alike = by_answer (answer_of seen at s)
 differ : (s : WrittenStart) → AreDistinct s → are_distinct (start_of s).attrs ≡ false → ⊥
 differ s distinct h = let same : true ≡ false = sym (distinct_again s.attrs distinct) ∙ h in absurd cc
 
-deep_wrong : (seen : Seen) (at : ℕ) (s : WrittenStart) → (second seen ≡ true → ⊥) → AreDistinct s → 64 ≤ length seen.open_elements → started seen at (start_of s) ≡ Err kind.Depth
+deep_wrong : (seen : Seen) (at : ℕ) (s : WrittenStart) → (second seen ≡ true → ⊥) → AreDistinct s → MAX_DEPTH ≤ length seen.open_elements → started seen at (start_of s) ≡ Err kind.Depth
 deep_wrong seen at s inner distinct far = by_answer (answer_of seen at s)
   where
     by_answer : Answer seen at s → started seen at (start_of s) ≡ Err kind.Depth
@@ -173,7 +174,7 @@ deep_wrong seen at s inner distinct far = by_answer (answer_of seen at s)
     by_answer (AMany h i j k r) = absurd (omega arith)
     by_answer (ATaken h i j k r) = absurd (omega arith)
 
-many_wrong : (seen : Seen) (at : ℕ) (s : WrittenStart) → (second seen ≡ true → ⊥) → AreDistinct s → length seen.open_elements < 64 → 262144 ≤ length seen.tags → started seen at (start_of s) ≡ Err kind.TooMany
+many_wrong : (seen : Seen) (at : ℕ) (s : WrittenStart) → (second seen ≡ true → ⊥) → AreDistinct s → length seen.open_elements < MAX_DEPTH → MAX_TAGS ≤ length seen.tags → started seen at (start_of s) ≡ Err kind.TooMany
 many_wrong seen at s inner distinct near full = by_answer (answer_of seen at s)
   where
     by_answer : Answer seen at s → started seen at (start_of s) ≡ Err kind.TooMany

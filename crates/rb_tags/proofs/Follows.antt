@@ -1,10 +1,11 @@
 -- What a mark changes, and what is wrong with one that may not follow.
-use Rattle.std.proofs.Common.{◌≡◌, ◌≢◌, ℕ, ◌<◌, ◌≤◌, Bool, true, false, cond, eqb, ltb, not, ◌&&◌, List, [], ◌∷◌, ◌++◌, length, codes, Result, Ok, Err, refl, sym, ap, subst, ◌∙◌, arith, ◌⊎◌, inl, inr}
+use Rattle.std.proofs.Common.{◌≡◌, ◌≢◌, ℕ, ◌<◌, ◌≤◌, Bool, true, false, cond, eqb, ltb, leb, not, ◌&&◌, List, [], ◌∷◌, ◌++◌, length, codes, Result, Ok, Err, refl, sym, ap, subst, ◌∙◌, arith, ◌⊎◌, inl, inr}
 use Rattle.std.specs.Str.{bytes_eq}
 use Rattle.std.proofs.lemmas.Bool.{eqb-true, ltb-true, and_parts}
 use Rattle.std.proofs.lemmas.Bool.Decides.{nat_tests}
 use Rattle.std.proofs.lemmas.Slice.Eq.{bytes_eq-Decides}
 use Rattle.std.proofs.lemmas.List.{append-nil, nil_from_length}
+use Rattle.rb_tags.specs.declared.tag.TheConstants.{MAX_DEPTH, MAX_TAGS}
 use Rattle.rb_tags.specs.declared.tag.Tag.{Tag}
 use Rattle.rb_tags.specs.declared.read.TagKind.{TagKind}
 use Rattle.rb_tags.specs.declared.read.TagKind.TheVariants.{BadMark, Twice, Depth, TooMany, Mismatch}
@@ -52,15 +53,15 @@ not_false false e = absurd cc
 pub data StartAnswer (seen : Seen) (s : WrittenStart) (r : Result Seen TagKind) (taken : Seen) : Type 0 where
   ASecond : second seen ≡ true → r ≡ Err BadMark → StartAnswer seen s r taken
   ATwice : second seen ≡ false → are_distinct (start_of s).attrs ≡ false → r ≡ Err Twice → StartAnswer seen s r taken
-  ADeep : second seen ≡ false → are_distinct (start_of s).attrs ≡ true → 64 ≤ length seen.open_elements → r ≡ Err Depth → StartAnswer seen s r taken
-  AMany : second seen ≡ false → are_distinct (start_of s).attrs ≡ true → length seen.open_elements < 64 → 262144 ≤ length seen.tags → r ≡ Err TooMany → StartAnswer seen s r taken
-  ATaken : second seen ≡ false → are_distinct (start_of s).attrs ≡ true → length seen.open_elements < 64 → length seen.tags < 262144 → r ≡ Ok taken → StartAnswer seen s r taken
+  ADeep : second seen ≡ false → are_distinct (start_of s).attrs ≡ true → MAX_DEPTH ≤ length seen.open_elements → r ≡ Err Depth → StartAnswer seen s r taken
+  AMany : second seen ≡ false → are_distinct (start_of s).attrs ≡ true → length seen.open_elements < MAX_DEPTH → MAX_TAGS ≤ length seen.tags → r ≡ Err TooMany → StartAnswer seen s r taken
+  ATaken : second seen ≡ false → are_distinct (start_of s).attrs ≡ true → length seen.open_elements < MAX_DEPTH → length seen.tags < MAX_TAGS → r ≡ Ok taken → StartAnswer seen s r taken
 
 pub answer_of : (seen : Seen) (place : ℕ) (s : WrittenStart) → StartAnswer seen s (started seen place (start_of s)) (entered (with_tag seen place (start_of s)) place (start_of s))
 unfolding started
-answer_of seen place s = by_tests (entered (with_tag seen place (start_of s)) place (start_of s)) (second seen) (are_distinct (start_of s).attrs) (ltb 63 (length seen.open_elements)) (ltb 262143 (length seen.tags)) refl refl refl refl
+answer_of seen place s = by_tests (entered (with_tag seen place (start_of s)) place (start_of s)) (second seen) (are_distinct (start_of s).attrs) (leb MAX_DEPTH (length seen.open_elements)) (leb MAX_TAGS (length seen.tags)) refl refl refl refl
   where
-    by_tests : (taken : Seen) (a b c d : Bool) → second seen ≡ a → are_distinct (start_of s).attrs ≡ b → ltb 63 (length seen.open_elements) ≡ c → ltb 262143 (length seen.tags) ≡ d
+    by_tests : (taken : Seen) (a b c d : Bool) → second seen ≡ a → are_distinct (start_of s).attrs ≡ b → leb MAX_DEPTH (length seen.open_elements) ≡ c → leb MAX_TAGS (length seen.tags) ≡ d
         → StartAnswer seen s (cond a (Err BadMark) (cond (not b) (Err Twice) (cond c (Err Depth) (cond d (Err TooMany) (Ok taken))))) taken
     by_tests taken true b c d h i j k = ASecond h refl
     by_tests taken false false c d h i j k = ATwice h i refl

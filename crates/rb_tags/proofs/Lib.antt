@@ -7,10 +7,13 @@ pub mod Closing
 pub mod Complete
 pub mod Distinct
 pub mod Faulty
+pub mod Folds
 pub mod Follows
 pub mod Judged
 pub mod Loop
 pub mod MarkLaws
+pub mod Nested
+pub mod Numbering
 pub mod Over
 pub mod Parts
 pub mod References
@@ -23,3 +26,5 @@ pub mod TakesTag
 pub mod Valid
 pub mod ValueLaws
 pub mod ValueSteps
+pub mod Walks
+pub mod WordLemmas

@@ -4,6 +4,7 @@ use Rattle.std.specs.List.{AllPass, AllByRecursion, flat_map}
 use Rattle.std.specs.Str.{IsUtf8}
 use Rattle.rb_tags.specs.declared.tag.Attr.{Attr}
 use Rattle.rb_tags.specs.declared.tag.Tag.{Tag}
+use Rattle.rb_tags.specs.declared.tag.TheConstants.{MAX_DEPTH, MAX_TAGS}
 use Rattle.rb_tags.specs.declared.marks.StartTag.{StartTag}
 use Rattle.rb_tags.specs.Bytes.{is_space, is_name_byte, is_value_byte, is_quote, is_text_byte}
 use Rattle.rb_tags.specs.Values.{Piece, IsPiece, piece_text, piece_value}
@@ -135,8 +136,8 @@ MayStand elements text = (elements ≢ []) ⊎ IsSpace text
 pub record MayStart (count : ℕ) (elements : List OpenElement) (s : WrittenStart) : Type 0 where
   pub inside : (count ≡ 0) ⊎ (elements ≢ [])
   pub distinct : AllPairs (λ a b. a.name ≢ b.name) s.attrs
-  pub depth : length elements < 64
-  pub room : count < 262144
+  pub depth : length elements < MAX_DEPTH
+  pub room : count < MAX_TAGS
 
 -- an end tag closes the innermost open element
 abbrev pub Closes : List OpenElement → List ℕ → Type 0

@@ -2,6 +2,7 @@
 use Rattle.std.specs.Prelude.{◌≡◌, ◌≢◌, ◌⊎◌, ℕ, ◌+◌, ◌<◌, ◌≤◌, true, false, List, [], ◌∷◌, ◌++◌, length, codes, AllPairs}
 use Rattle.std.specs.List.{AllPass, AllByRecursion, flat_map}
 use Rattle.std.specs.Str.{IsUtf8, IsValidUpTo}
+use Rattle.rb_tags.specs.declared.tag.TheConstants.{MAX_DEPTH, MAX_TAGS}
 use Rattle.rb_tags.specs.declared.read.TagFault.{TagFault}
 use Rattle.rb_tags.specs.declared.read.TagKind.{TagKind}
 use Rattle.rb_tags.specs.declared.read.TagKind.TheVariants as kind
@@ -109,7 +110,7 @@ pub record HasDepth (bytes : List ℕ) (at : ℕ) : Type 0 where
   pub s : WrittenStart
   pub here : AtInner bytes at count elements s
   pub distinct : AreDistinct s
-  pub deep : 64 ≤ length elements
+  pub deep : MAX_DEPTH ≤ length elements
 
 pub record HasTooMany (bytes : List ℕ) (at : ℕ) : Type 0 where
   pub count : ℕ
@@ -117,8 +118,8 @@ pub record HasTooMany (bytes : List ℕ) (at : ℕ) : Type 0 where
   pub s : WrittenStart
   pub here : AtInner bytes at count elements s
   pub distinct : AreDistinct s
-  pub shallow : length elements < 64
-  pub many : 262144 ≤ count
+  pub shallow : length elements < MAX_DEPTH
+  pub many : MAX_TAGS ≤ count
 
 -- an end tag that does not close the innermost open element
 pub record HasMismatch (bytes : List ℕ) (at : ℕ) : Type 0 where

@@ -1,5 +1,5 @@
 -- What was read of a file so far, and how what follows changes it.
-use Rattle.std.specs.Prelude.{ℕ, ◌+◌, Bool, true, List, [], ◌∷◌, ◌++◌, length, not, ◌&&◌, ◌==◌, nat_lt, Result, Ok, Err, if◌then◌else◌}
+use Rattle.std.specs.Prelude.{ℕ, ◌+◌, Bool, true, List, [], ◌∷◌, ◌++◌, length, not, ◌&&◌, ◌==◌, nat_lt, nat_le, Result, Ok, Err, if◌then◌else◌}
 use Rattle.std.specs.List.{take_while, list_any, list_all}
 use Rattle.std.specs.Str.{bytes_eq}
 use Rattle.rb_tags.specs.declared.read.TagFault.{TagFault}
@@ -7,6 +7,7 @@ use Rattle.rb_tags.specs.declared.read.TagKind.{TagKind}
 use Rattle.rb_tags.specs.declared.read.TagKind.TheVariants.{Unclosed, BadMark, Twice, Depth, TooMany, Mismatch}
 use Rattle.rb_tags.specs.declared.tag.Attr.{Attr}
 use Rattle.rb_tags.specs.declared.tag.Tag.{Tag}
+use Rattle.rb_tags.specs.declared.tag.TheConstants.{MAX_DEPTH, MAX_TAGS}
 use Rattle.rb_tags.specs.declared.marks.StartTag.{StartTag}
 pub use Rattle.rb_tags.specs.declared.reader.OpenElement.{OpenElement}
 use Rattle.rb_tags.specs.Faults.{fault_at}
@@ -46,8 +47,8 @@ unfoldable pub started : Seen → ℕ → StartTag → Result Seen TagKind
 started seen place start =
     if length seen.open_elements == 0 && nat_lt 0 (length seen.tags) then Err BadMark else
     if not (are_distinct start.attrs) then Err Twice else
-    if nat_lt 63 (length seen.open_elements) then Err Depth else
-    if nat_lt 262143 (length seen.tags) then Err TooMany else
+    if nat_le MAX_DEPTH (length seen.open_elements) then Err Depth else
+    if nat_le MAX_TAGS (length seen.tags) then Err TooMany else
     Ok (entered (with_tag seen place start) place start)
 
 abbrev pub ended_in : List OpenElement → List ℕ → Result (List OpenElement) TagKind

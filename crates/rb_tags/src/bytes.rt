@@ -6,7 +6,7 @@ ghost use Rattle.rb_tags.specs.Bytes.{is_space, is_name_byte, quote_byte, has_of
 
 /// A space, a tab, a CR or an LF.
 #[tactic(auto, unfolding(crate::specs::Bytes::is_space))]
-fn is_space(byte: u8) -> bool
+pub fn is_space(byte: u8) -> bool
     ensures { result ≡ is_space byte }
 {
     byte == b' ' || byte == b'\t' || byte == b'\r' || byte == b'\n'

@@ -2,6 +2,7 @@
 #![tactic(auto)]
 
 mod bytes;
+mod element;
 mod laws;
 mod marks;
 mod names;
@@ -11,12 +12,16 @@ mod root;
 mod tag;
 mod text;
 mod values;
+mod words;
 
+pub use element::{ElementRef, attribute_in, child_in, is_child};
 pub use laws::tags_by_grammar;
+pub use names::Names;
 pub use read::{TagFault, TagKind, read_tags};
 pub use root::RootKind;
-pub use tag::{Attr, AttrList, Tag, Tags};
+pub use tag::{Attr, AttrList, MAX_DEPTH, MAX_TAGS, Tag, Tags};
 pub use text::Text;
+pub use words::next_word;
 
 #[cfg(test)]
 mod tests;

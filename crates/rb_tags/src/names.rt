@@ -1,10 +1,14 @@
-// The names of a tag's attributes.
-ghost use Rattle.std.specs.Prelude.{◌≡◌, IfOk};
+// The names of a tag's attributes, and lists of different names.
+ghost use Rattle.std.specs.Prelude.{◌≡◌, ◌≤◌, ◌^◌, ◌++◌, ◌∷◌, [], not, if◌then◌else◌, bytes_eq, length, IfOk, IfErr};
+ghost use Rattle.std.specs.List.{list_any};
+ghost use Rattle.rb_tags.specs.Names.{number_of_name};
 ghost use Rattle.rb_tags.specs.Seen.{are_distinct};
 
 use crate::tag::Attr;
+use indexmap::IndexSet;
 use std::alloc::{AllocError, Global};
 use std::collections::BTreeSet;
+use std::marker::Model;
 
 /// Whether no two attributes have one name. The set is sorted, so that no choice of names makes many attributes slow.
 pub fn are_distinct(alloc: Global, attrs: &[Attr]) -> Result<bool, AllocError>
@@ -19,4 +23,50 @@ pub fn are_distinct(alloc: Global, attrs: &[Attr]) -> Result<bool, AllocError>
         rest = others;
     }
     Ok(true)
+}
+
+/// Different names, in the order in which they were added.
+#[derive(Drop)]
+pub struct Names<'a> {
+    names: IndexSet<&'a str>,
+}
+
+impl<'a> Model for Names<'a> {
+    ghost use Rattle.std.specs.Prelude.{List, ℕ, map};
+
+    ghost Value = { List (List ℕ) };
+
+    ghost view = { λ n. map (λ name. name.now) n.names.keys };
+}
+
+impl<'a> Names<'a> {
+    /// No names.
+    pub fn new(alloc: Global) -> Self
+        ensures { result ≡ [] }
+    {
+        Names {
+            names: IndexSet::new(alloc),
+        }
+    }
+
+    /// Adds a name behind the others, if none of them is the same, and says whether it did. Its one refusal is for want of memory, and the
+    /// names are then as they were.
+    pub fn add(&mut self, name: &'a str) -> Result<bool, AllocError>
+        ensures added { IfOk result (λ added. added ≡ not (list_any (bytes_eq name.now) self.old)) }
+        ensures names { IfOk result (λ added. self.new ≡ (if added then self.old ++ name.now ∷ [] else self.old)) }
+        ensures kept { IfErr result (λ _. self.new ≡ self.old) }
+    {
+        Ok(self.names.insert(name)?)
+    }
+
+    /// The number of a name, from 0.
+    pub fn number_of(&self, name: &str) -> Option<u32>
+        requires { length self.now ≤ 2 ^ 32 }
+        ensures { result ≡ number_of_name self.now name.now }
+    {
+        match self.names.get_index_of(name) {
+            Some(number) => Some(number as u32),
+            None => None,
+        }
+    }
 }

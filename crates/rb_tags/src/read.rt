@@ -20,13 +20,13 @@ pub enum TagKind {
     Mismatch,
     /// A document type, at its `<`.
     Doctype,
-    /// A start tag deeper than 64, at its `<`. The outermost has depth 1.
+    /// A start tag deeper than `MAX_DEPTH`, at its `<`. The outermost has depth 1.
     Depth,
     /// Two attributes of one tag have one name, at the tag's `<`.
     Twice,
     /// A mark does not fit or begins a second outermost element, at its `<`; or text other than white space outside the outermost element, at its first byte.
     BadMark,
-    /// The start tag numbered 262,145, at its `<`.
+    /// The start tag after the first `MAX_TAGS`, at its `<`.
     TooMany,
     /// For want of memory.
     Memory,

@@ -1,7 +1,8 @@
 ghost use Rattle.std.specs.Prelude.{◌≡◌, ◌+◌, ◌^◌, ◌<◌, ◌≤◌, length, All};
 ghost use Rattle.rb_tags.specs.Faults.{placed_kind, no_memory};
 ghost use Rattle.rb_tags.specs.Seen.{nothing_seen, with_tag, started, ended, with_data, marked, marked_at, read_mark, read_text, finished};
-ghost use Rattle.rb_tags.specs.Kept.{IsReadTag, HasDistinctNames};
+ghost use Rattle.rb_tags.specs.Kept.{IsReadTag, IsReading, HasDistinctNames};
+ghost use Rattle.rb_tags.specs.declared.tag.TheConstants.{MAX_DEPTH, MAX_TAGS};
 ghost use Rattle.rb_result.specs.Steps.{Gives};
 ghost use Rattle.rb_tags.specs.declared.read.TagKind.TheVariants.{Memory};
 
@@ -9,15 +10,9 @@ use crate::bytes::Class;
 use crate::marks::{ReadMark, StartTag, mark};
 use crate::names::are_distinct;
 use crate::read::{NO_MEMORY, TagFault, TagKind};
-use crate::tag::{Tag, Tags};
+use crate::tag::{MAX_DEPTH, MAX_TAGS, Tag, Tags};
 use crate::text::Text;
 use std::alloc::Global;
-
-/// The greatest depth of an element. The outermost has 1.
-const DEPTH_LIMIT: usize = 64;
-
-/// The greatest number of start tags.
-const TAG_LIMIT: usize = 262_144;
 
 /// An element that is open: its name, and the place of the `<` of its start tag.
 #[derive(Drop)]
@@ -31,7 +26,8 @@ pub struct OpenElement {
 pub struct Reader {
     tags: Vec<Tag>,
     open: Vec<OpenElement>,
-    ghost few: { length tags.items ≤ 262144 },
+    ghost few: { length tags.items ≤ MAX_TAGS },
+    ghost nested: { IsReading (length «open».items) tags.items },
     ghost each: { All IsReadTag tags.items },
 }
 
@@ -70,10 +66,10 @@ impl Reader {
         if !are_distinct(alloc, start.attrs.as_slice())? {
             return Err(TagKind::Twice);
         }
-        if depth >= DEPTH_LIMIT {
+        if depth >= MAX_DEPTH {
             return Err(TagKind::Depth);
         }
-        if self.tags.len() >= TAG_LIMIT {
+        if self.tags.len() >= MAX_TAGS {
             return Err(TagKind::TooMany);
         }
         if start.closes {
@@ -87,8 +83,9 @@ impl Reader {
 
     /// Adds the tag of a start tag whose `<` is at a place.
     fn add(&mut self, place: u64, start: StartTag) -> Result<(), TagKind>
-        requires shallow { length (seen_of self.old).open_elements < 64 }
-        requires room { length (seen_of self.old).tags < 262144 }
+        requires shallow { length (seen_of self.old).open_elements < MAX_DEPTH }
+        requires room { length (seen_of self.old).tags < MAX_TAGS }
+        requires nested { length (seen_of self.old).open_elements ≡ 0 → length (seen_of self.old).tags ≡ 0 }
         requires distinct { HasDistinctNames start.attrs }
         ensures { Gives Memory (λ _. seen_of self.new) result (Ok (with_tag (seen_of self.old) place start)) }
     {

@@ -43,7 +43,14 @@ pub struct Tag {
     pub attrs: AttrList,
 }
 
-/// The start tags of a file, in file order: at least one and at most 262,144, each of a depth from 1 to 64 and with attributes of different names.
+/// The greatest number of start tags of a file.
+pub const MAX_TAGS: usize = 262_144;
+
+/// The greatest depth of an element. The outermost has 1.
+pub const MAX_DEPTH: usize = 64;
+
+/// The start tags of a file, in file order: at least one and at most `MAX_TAGS`, each with attributes of different names. The first has
+/// depth 1, each other more than 1 and at most `MAX_DEPTH`, and at most one more than the tag before it.
 #[derive(Debug, Drop)]
 pub struct Tags {
     pub(crate) tags: Vec<Tag>,

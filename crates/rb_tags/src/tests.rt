@@ -328,3 +328,61 @@ fn is_faulted(alloc: Global, bytes: &[u8], kind: TagKind, at: u64) -> bool {
         Err(fault) => fault == TagFault { kind, at },
     }
 }
+
+#[test]
+fn elements(rt: HostRuntime) -> Result<(), Fail> {
+    let text = "<a><b c='1'><d/></b><b c='2' e=''/><d f=' 1\t2\n'/></a>";
+    let tags = read_tags(rt.alloc(), text.as_bytes()).ok().ok_or(text)?;
+    let (root, behind) = tags.as_slice().split_first().ok_or("a root")?;
+    let root = ElementRef::new(root, behind);
+    assert_eq!(rt; root.inside.len(), 4);
+    let first = root.child("b").ok_or("b")?;
+    assert_eq!(rt; first.inside.len(), 1);
+    assert_eq!(rt; first.attribute("c"), Some("1"));
+    assert_eq!(rt; first.given("e"), None);
+    assert_eq!(rt;
+        attribute_in("f", child_in("d", Some(root))),
+        Some(" 1\t2\n")
+    );
+    assert_eq!(rt; attribute_in("f", child_in("d", Some(first))), None);
+    assert!(rt; is_child("b", 1, first.tag));
+    Ok(())
+}
+
+#[test]
+fn words(rt: HostRuntime) -> Result<(), Fail> {
+    let (first, rest) = next_word(b" 1\t2\n").ok_or("a word")?;
+    assert_eq!(rt; first, b"1".as_slice());
+    let (second, rest) = next_word(rest).ok_or("another")?;
+    assert_eq!(rt; second, b"2".as_slice());
+    assert!(rt; next_word(rest).is_none());
+    Ok(())
+}
+
+#[test]
+fn names(rt: HostRuntime) -> Result<(), Fail> {
+    let mut names = Names::new(rt.alloc());
+    assert!(rt; names.add("a")?);
+    assert!(rt; names.add("b")?);
+    assert!(rt; !names.add("a")?);
+    assert_eq!(rt; names.number_of("b"), Some(1));
+    assert_eq!(rt; names.number_of("c"), None);
+    Ok(())
+}
+
+fn is_shared<T: Send + Sync>() {}
+
+// Threads may send and share each public type.
+#[test]
+fn types_are_shared(_rt: HostRuntime) {
+    is_shared::<Text>();
+    is_shared::<Attr>();
+    is_shared::<AttrList>();
+    is_shared::<Tag>();
+    is_shared::<Tags>();
+    is_shared::<ElementRef<'static>>();
+    is_shared::<Names<'static>>();
+    is_shared::<TagKind>();
+    is_shared::<TagFault>();
+    is_shared::<RootKind>();
+}
