@@ -1,7 +1,8 @@
 -- Marks that run to their closing bytes.
 use Rattle.std.proofs.Common.{◌≡◌, ℕ, suc, ◌+◌, ◌≤◌, List, [], ◌∷◌, ◌++◌, length, Option, Some, None, refl, sym, ap, ◌∙◌, append_assoc, arith}
 use Rattle.std.proofs.lemmas.List.{length-append, nil_from_length}
-use Rattle.rb_tags.specs.Bytes.{after_front, after_first, or_else}
+use Rattle.rb_tags.specs.Bytes.{after_front, after_first}
+use Rattle.std.specs.Option.{option_or}
 use Rattle.rb_tags.specs.Grammar.{RunsTo}
 use Rattle.rb_tags.specs.BadMarks.{Begins, Lacks}
 use Rattle.rb_tags.proofs.Runs.{front_found}
@@ -58,7 +59,7 @@ unfolding after_first
 first_takes closing [] rest e = record { body = []; runs = runs_none closing; text = front_takes closing [] rest e }
 first_takes closing (b ∷ bs) rest e = by_read (after_front closing (b ∷ bs)) refl e (first_takes closing bs rest)
   where
-    by_read : (o : Option (List ℕ)) → after_front closing (b ∷ bs) ≡ o → or_else o (after_first closing bs) ≡ Some rest → (after_first closing bs ≡ Some rest → Runs closing bs rest) → Runs closing (b ∷ bs) rest
+    by_read : (o : Option (List ℕ)) → after_front closing (b ∷ bs) ≡ o → option_or o (after_first closing bs) ≡ Some rest → (after_first closing bs ≡ Some rest → Runs closing bs rest) → Runs closing (b ∷ bs) rest
     by_read (Some r) is given inner =
         let same : r ≡ rest = some_is r rest given in
         record { body = []; runs = runs_none closing; text = front_takes closing (b ∷ bs) rest (is ∙ ap (λ (t : List ℕ). Some t) same) }
@@ -96,7 +97,7 @@ unfolding after_first
 some_first closing [] back none = let some = at_front closing (closing ++ back) back (front_found closing back) in cc
 some_first closing (f ∷ front) back none = by_read (after_front closing ((f ∷ front) ++ (closing ++ back))) none (some_first closing front back)
   where
-    by_read : (o : Option (List ℕ)) → or_else o (after_first closing (front ++ (closing ++ back))) ≡ None → (after_first closing (front ++ (closing ++ back)) ≡ None → ⊥) → ⊥
+    by_read : (o : Option (List ℕ)) → option_or o (after_first closing (front ++ (closing ++ back))) ≡ None → (after_first closing (front ++ (closing ++ back)) ≡ None → ⊥) → ⊥
     by_read (Some r) given later = cc
     by_read None given later = later given
 

@@ -1,6 +1,7 @@
 -- Classes of bytes, and runs of them at the front.
 use Rattle.std.specs.Prelude.{ℕ, Bool, List, [], ◌∷◌, drop, not, ◌&&◌, ◌||◌, ◌==◌, Option, None, Some, if◌then◌else◌}
 use Rattle.std.specs.List.{prefix_len}
+use Rattle.std.specs.Option.{option_or}
 use Rattle.rb_tags.specs.declared.bytes.Quote.{Quote}
 use Rattle.rb_tags.specs.declared.bytes.Quote.TheVariants.{Double, Single}
 use Rattle.rb_tags.specs.declared.bytes.Class.{Class}
@@ -56,14 +57,10 @@ after_front [] bytes = Some bytes
 after_front (c ∷ cs) [] = None
 after_front (c ∷ cs) (b ∷ bs) = if b == c then after_front cs bs else None
 
-abbrev pub or_else : {A : Type 0} → Option A → Option A → Option A
-or_else (Some x) other = Some x
-or_else None other = other
-
 -- the bytes after the first place where a text stands
 unfoldable pub after_first : List ℕ → List ℕ → Option (List ℕ)
 after_first closing [] = after_front closing []
-after_first closing (b ∷ bs) = or_else (after_front closing (b ∷ bs)) (after_first closing bs)
+after_first closing (b ∷ bs) = option_or (after_front closing (b ∷ bs)) (after_first closing bs)
 
 -- what follows from the bytes behind the first one, or what stands in its place where there is none
 abbrev pub if_more : {A : Type 0} → List ℕ → A → (List ℕ → A) → A

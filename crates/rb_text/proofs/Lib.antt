@@ -6,3 +6,4 @@ pub mod Splits
 pub mod Numbers
 pub mod Outcomes
 pub mod Ends
+pub mod Threes

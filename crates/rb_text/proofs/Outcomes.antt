@@ -16,8 +16,11 @@ use Rattle.rb_text.specs.declared.bracket.TextFault.{TextFault}
 use Rattle.rb_text.specs.declared.bracket.TextFault.TheVariants.{NotNumber, TooLarge, Backwards}
 use Rattle.rb_text.specs.Decimal.{decimal_from, decimal_of, lower_of, upper_of, numerator_of, denominator_of, exact_value}
 use Rattle.rb_text.specs.Range.{Number, single, range, IsWritten, Halves, split_of, single_of, range_of, number_of_halves, number_of}
-use Rattle.rb_text.specs.Bracket.{largest, is_large, rounded, bracket_of_value, between, bracket_of_range, bracket_of_number, bracket_of, IsRounded, IsLeast, IsSpan, IsBracketOf, IsBracket, IsNumber, IsLarge, HasLarge, IsLargeNumber, IsBackwards}
+use Rattle.rb_text.specs.Bracket.{is_large, rounded, bracket_of_value, between, bracket_of_range, bracket_of_number, bracket_of, IsRounded, IsSpan, IsBracketOf, IsBracket, IsNumber, IsLarge, HasLarge, IsLargeNumber, IsBackwards}
 use Rattle.rb_text.proofs.Numbers.{number_is, number_read}
+use Rattle.rb_text.specs.declared.size.TheConstants.{LARGEST}
+use Rattle.rb_num.specs.Least.{IsLeast}
+use Rattle.rb_num.specs.Fraction.{LiesIn}
 
 -- ---- the least interval
 at_most : (q f z : ℤ) (n : ℕ) → 0 < n → (q *ℤ pos n) ≤ℤ z → z <ℤ (f *ℤ pos n +ℤ pos n) → q ≤ℤ f
@@ -26,14 +29,16 @@ at_most q f z n p h k = by_lt_z f q (λ (l : f <ℤ q). absurd (omega (arith, in
 at_least : (q c z : ℤ) (n : ℕ) → 0 < n → z ≤ℤ (q *ℤ pos n) → (c *ℤ pos n +ℤ pos 1) ≤ℤ (z +ℤ pos n) → c ≤ℤ q
 at_least q c z n p h k = by_lt_z q c (λ (l : q <ℤ c). absurd (omega (arith, ints, mul-le-mul_left n (lt_out q c l)))) (λ l. l)
 
-pub least : (x : Frac) → IsLeast x (rounded x)
+pub least : (x : Frac) → IsLeast (LiesIn x) (rounded x)
 unfolding rounded
 least x =
     let z = x.num *ℤ pos grid in
     record {
-      lies = record { above = floor-low z x.den x.some; below = ceil-high z x.den x.some };
-      low = λ other l. at_most other.lo (floor_of z x.den) z x.den x.some l.above (floor-high z x.den x.some);
-      high = λ other l. at_least other.hi (ceil_of z x.den) z x.den x.some l.below (ceil-low z x.den x.some);
+      has = record { above = floor-low z x.den x.some; below = ceil-high z x.den x.some };
+      least = λ other l. record {
+        low = at_most other.lo (floor_of z x.den) z x.den x.some l.above (floor-high z x.den x.some);
+        high = at_least other.hi (ceil_of z x.den) z x.den x.some l.below (ceil-low z x.den x.some);
+      };
     }
 
 -- ---- a value by its size
@@ -53,13 +58,13 @@ same_ends {a} {b} {c} {d} p q = ap (λ (x : ℤ). interval x b) p ∙ ap (λ (y 
 abbrev of_size : Bool → ℕ → ℕ → Interval
 of_size negative low high = cond negative (interval (neg_ℤ (pos high)) (neg_ℤ (pos low))) (interval (pos low) (pos high))
 
-small_value : (x : Frac) (v : Interval) → unsigned_abs x.num ≤ largest * x.den → rounded x ≡ v → bracket_of_value x ≡ Ok v
+small_value : (x : Frac) (v : Interval) → unsigned_abs x.num ≤ LARGEST * x.den → rounded x ≡ v → bracket_of_value x ≡ Ok v
 unfolding bracket_of_value
-small_value x v h e = rw (le-ltb (largest * x.den) (unsigned_abs x.num) h) (ap (λ (w : Interval). Ok w) e)
+small_value x v h e = rw (le-ltb (LARGEST * x.den) (unsigned_abs x.num) h) (ap (λ (w : Interval). Ok w) e)
 
-large_value : (x : Frac) → largest * x.den < unsigned_abs x.num → bracket_of_value x ≡ Err TooLarge
+large_value : (x : Frac) → LARGEST * x.den < unsigned_abs x.num → bracket_of_value x ≡ Err TooLarge
 unfolding bracket_of_value
-large_value x h = rw (lt-ltb (largest * x.den) (unsigned_abs x.num) h)
+large_value x h = rw (lt-ltb (LARGEST * x.den) (unsigned_abs x.num) h)
 
 pub value_rounded : (negative : Bool) (whole part : List ℕ) (down : Bool) (exponent : List ℕ) (low high : ℕ)
     → IsRounded (numerator_of (decimal_from negative whole part down exponent)) (denominator_of (decimal_from negative whole part down exponent)) low high
@@ -70,7 +75,7 @@ value_rounded true whole part down exponent low high r =
     let n = numerator_of d in
     let tens = denominator_of d in
     let turned = neg-mul (pos n) (pos grid) in
-    small_value (exact_value d) _ (subst (λ (m : ℕ). m ≤ largest * tens) (sym (size_of_negative n)) r.fits)
+    small_value (exact_value d) _ (subst (λ (m : ℕ). m ≤ LARGEST * tens) (sym (size_of_negative n)) r.fits)
     (same_ends
     (ap (λ (z : ℤ). floor_of z tens) turned ∙ floor_negative (pos n *ℤ pos grid) tens (pos high) r.high_is)
     (ap (λ (z : ℤ). ceil_of z tens) turned ∙ ceil_negative (pos n *ℤ pos grid) tens (pos low) r.low_is))
@@ -78,12 +83,12 @@ value_rounded false whole part down exponent low high r =
     small_value (exact_value (decimal_from false whole part down exponent)) _ r.fits (same_ends (sym r.low_is) (sym r.high_is))
 
 pub value_large : (negative : Bool) (whole part : List ℕ) (down : Bool) (exponent : List ℕ)
-    → largest * denominator_of (decimal_from negative whole part down exponent) < numerator_of (decimal_from negative whole part down exponent)
+    → LARGEST * denominator_of (decimal_from negative whole part down exponent) < numerator_of (decimal_from negative whole part down exponent)
     → bracket_of_value (exact_value (decimal_from negative whole part down exponent)) ≡ Err TooLarge
 unfolding exact_value
 value_large true whole part down exponent h =
     let d = decimal_from true whole part down exponent in
-    large_value (exact_value d) (subst (λ (m : ℕ). largest * denominator_of d < m) (sym (size_of_negative (numerator_of d))) h)
+    large_value (exact_value d) (subst (λ (m : ℕ). LARGEST * denominator_of d < m) (sym (size_of_negative (numerator_of d))) h)
 value_large false whole part down exponent h = large_value (exact_value (decimal_from false whole part down exponent)) h
 
 -- ---- the answer at a value
@@ -107,7 +112,7 @@ unfolding bracket_of_value
 value_cases x =
     elim (is_large x) as (λ b. is_large x ≡ b → IsSmall x (cond b (Err TooLarge) (Ok (rounded x))) ⊎ IsTooLarge x (cond b (Err TooLarge) (Ok (rounded x)))) [
       | true ↦ λ e. inr (record { above = ltb-true _ _ e; is = refl })
-      | false ↦ λ e. inl (record { fits = λ h. let at_most : unsigned_abs x.num ≤ largest * x.den = ltb-false _ _ e in absurd (omega arith); is = refl })
+      | false ↦ λ e. inl (record { fits = λ h. let at_most : unsigned_abs x.num ≤ LARGEST * x.den = ltb-false _ _ e in absurd (omega arith); is = refl })
     ] refl
 
 -- ---- the answer at two
@@ -174,7 +179,7 @@ record Single (x : Frac) (r : Answer) : Type 0 where
   pub forward : r ≡ Err Backwards → ⊥
   pub is_large : r ≡ Err TooLarge → IsLarge x
   pub large_is : IsLarge x → r ≡ Err TooLarge
-  pub least : (v : Interval) → r ≡ Ok v → IsLeast x v
+  pub least : (v : Interval) → r ≡ Ok v → IsLeast (LiesIn x) v
 
 single_by : (x : Frac) (r : Answer) → IsSmall x r ⊎ IsTooLarge x r → Single x r
 single_by x r c = ⊎_elim {C = Single x r}
@@ -185,7 +190,7 @@ single_by x r c = ⊎_elim {C = Single x r}
       forward = λ e. cc;
       is_large = λ e. absurd (cc);
       large_is = λ h. absurd (s.fits h);
-      least = λ v e. let same : rounded x ≡ v = cc in subst (IsLeast x) same (least x);
+      least = λ v e. let same : rounded x ≡ v = cc in subst (IsLeast (LiesIn x)) same (least x);
     })
     (λ (t : IsTooLarge x r).
     let is = t.is in
@@ -204,8 +209,8 @@ record IsFallingRange (lower upper : Frac) : Type 0 where
   pub upper_fits : Fits upper
   pub first : Interval
   pub second : Interval
-  pub first_least : IsLeast lower first
-  pub second_least : IsLeast upper second
+  pub first_least : IsLeast (LiesIn lower) first
+  pub second_least : IsLeast (LiesIn upper) second
   pub backwards : (second.lo <ℤ first.lo) ⊎ (second.hi <ℤ first.hi)
 
 -- an answer at two values
@@ -220,10 +225,10 @@ record Double (lower upper : Frac) (r : Answer) : Type 0 where
 -- every least interval of a value has the ends of this one
 rises : (lower upper : Frac) (r : Answer) → IsOrdered (rounded lower) (rounded upper) r → IsFallingRange lower upper → ⊥
 rises lower upper r o f =
-    let a = (least lower).low f.first f.first_least.lies in
-    let b = f.second_least.low (rounded upper) (least upper).lies in
-    let c = f.first_least.high (rounded lower) (least lower).lies in
-    let d = (least upper).high f.second f.second_least.lies in
+    let a = ((least lower).least f.first f.first_least.has).low in
+    let b = (f.second_least.least (rounded upper) (least upper).has).low in
+    let c = (f.first_least.least (rounded lower) (least lower).has).high in
+    let d = ((least upper).least f.second f.second_least.has).high in
     ⊎_elim {C = ⊥}
     (λ (l : f.second.lo <ℤ f.first.lo). omega (arith, ints, a, b, o.low))
     (λ (l : f.second.hi <ℤ f.first.hi). omega (arith, ints, c, d, o.high))

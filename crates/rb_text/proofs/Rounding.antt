@@ -15,9 +15,10 @@ use lib.Pow.{pow-add}
 use Rattle.rb_num.specs.Interval.{grid}
 use Rattle.rb_num.specs.Dot.{floor_of, ceil_of}
 use Rattle.rb_text.specs.Decimal.{Decimal, decimal_from, power_where, numerator_of, denominator_of, denominator_positive}
-use Rattle.rb_text.specs.Size.{farthest, raised_of, lowered_of}
-use Rattle.rb_text.specs.Bracket.{largest, IsRounded}
+use Rattle.rb_text.specs.Size.{raised_of, lowered_of}
+use Rattle.rb_text.specs.Bracket.{IsRounded}
 use Rattle.rb_text.proofs.Digits.{digits_value-append, all_digits, AllDigits-drop, ten_positive, is_other, none_other, some_other}
+use Rattle.rb_text.specs.declared.size.TheConstants.{LARGEST, FARTHEST}
 
 -- n units of one part in d, of which `low` are whole and `rest` are left
 pub record Divides (n d low rest : ℕ) : Type 0 where
@@ -117,7 +118,7 @@ lowered m false e = omega arith
 
 -- past the farthest exponent the same digits are kept,
 kept_same : (n m e : ℕ) (down : Bool) → n < 2 ^ 65 → m < 2 ^ 65
-    → n - (lowered_of m down (min e farthest) - raised_of down (min e farthest)) ≡ n - (lowered_of m down e - raised_of down e)
+    → n - (lowered_of m down (min e FARTHEST) - raised_of down (min e FARTHEST)) ≡ n - (lowered_of m down e - raised_of down e)
 kept_same n m e true h k = omega arith
 kept_same n m e false h k = omega arith
 
@@ -126,20 +127,20 @@ abbrev AreAsGood : ℕ → ℕ → Type 0
 AreAsGood places real = (places ≡ real) ⊎ ((25 ≤ places) × (25 ≤ real))
 
 zeros_same : (m e : ℕ) (down : Bool) → m < 2 ^ 65
-    → AreAsGood (raised_of down (min e farthest) - lowered_of m down (min e farthest)) (raised_of down e - lowered_of m down e)
+    → AreAsGood (raised_of down (min e FARTHEST) - lowered_of m down (min e FARTHEST)) (raised_of down e - lowered_of m down e)
 zeros_same m e true k = inl (omega arith)
-zeros_same m e false k = ⊎_elim {C = AreAsGood (12 + min e farthest - m) (12 + e - m)}
-    (λ (l : e < farthest). inl (omega arith))
-    (λ (l : farthest ≤ e). inr (omega arith, omega arith))
-    (cases_lt e farthest)
+zeros_same m e false k = ⊎_elim {C = AreAsGood (12 + min e FARTHEST - m) (12 + e - m)}
+    (λ (l : e < FARTHEST). inl (omega arith))
+    (λ (l : FARTHEST ≤ e). inr (omega arith, omega arith))
+    (cases_lt e FARTHEST)
 
-many_zeros : (t places : ℕ) → 25 ≤ places → 0 < t → largest * grid < t * 10 ^ places
+many_zeros : (t places : ℕ) → 25 ≤ places → 0 < t → LARGEST * grid < t * 10 ^ places
 many_zeros t places h p =
     let ten : 10 ^ 25 ≤ 10 ^ places = pow-le-pow_right (zero-lt-suc 9) h in
     let one : 1 ≤ t = p in
     omega (arith, mul-le-mul_left (10 ^ places) one)
 
-low_same : (t places real : ℕ) → AreAsGood places real → t * 10 ^ places ≤ largest * grid → t * 10 ^ places ≡ t * 10 ^ real
+low_same : (t places real : ℕ) → AreAsGood places real → t * 10 ^ places ≤ LARGEST * grid → t * 10 ^ places ≡ t * 10 ^ real
 low_same t places real h l = ⊎_elim {C = t * 10 ^ places ≡ t * 10 ^ real}
     (λ (e : places ≡ real). ap (λ (x : ℕ). t * 10 ^ x) e)
     (λ (e : (25 ≤ places) × (25 ≤ real)).
@@ -149,11 +150,11 @@ low_same t places real h l = ⊎_elim {C = t * 10 ^ places ≡ t * 10 ^ real}
     (cases_lt 0 t))
     h
 
-low_large : (t places real : ℕ) → AreAsGood places real → largest * grid < t * 10 ^ places → largest * grid < t * 10 ^ real
-low_large t places real h l = ⊎_elim {C = largest * grid < t * 10 ^ real}
-    (λ (e : places ≡ real). subst (λ (x : ℕ). largest * grid < t * 10 ^ x) e l)
+low_large : (t places real : ℕ) → AreAsGood places real → LARGEST * grid < t * 10 ^ places → LARGEST * grid < t * 10 ^ real
+low_large t places real h l = ⊎_elim {C = LARGEST * grid < t * 10 ^ real}
+    (λ (e : places ≡ real). subst (λ (x : ℕ). LARGEST * grid < t * 10 ^ x) e l)
     (λ (e : (25 ≤ places) × (25 ≤ real)).
-    ⊎_elim {C = largest * grid < t * 10 ^ real}
+    ⊎_elim {C = LARGEST * grid < t * 10 ^ real}
     (λ (p : 0 < t). many_zeros t real e.1 p)
     (λ (p : t ≤ 0). let none : t ≡ 0 = omega arith in absurd (omega (arith, ap (λ (x : ℕ). x * 10 ^ places) none)))
     (cases_lt 0 t))
@@ -174,29 +175,29 @@ ceil_up n d low rest high p h up = ⊎_elim {C = ceil_of (pos n) d ≡ pos high}
     ceil_is n d high p (omega (arith, h.sum, h.below)) (omega (arith, h.sum, h.below, u.0)))
     up
 
-pub large_up : (n d low rest high : ℕ) → 0 < d → Divides (n * grid) d low rest → IsUp low rest high → largest * grid < high → largest * d < n
-large_up n d low rest high p h up l = ⊎_elim {C = largest * d < n}
+pub large_up : (n d low rest high : ℕ) → 0 < d → Divides (n * grid) d low rest → IsUp low rest high → LARGEST * grid < high → LARGEST * d < n
+large_up n d low rest high p h up l = ⊎_elim {C = LARGEST * d < n}
     (λ (u : (rest ≡ 0) × (high ≡ low)).
-    let above : largest * grid + 1 ≤ low = omega (arith, u.1) in
+    let above : LARGEST * grid + 1 ≤ low = omega (arith, u.1) in
     omega (arith, h.sum, mul-le-mul_left d above))
     (λ (u : (0 < rest) × (high ≡ low + 1)).
-    let above : largest * grid ≤ low = omega (arith, u.1) in
+    let above : LARGEST * grid ≤ low = omega (arith, u.1) in
     omega (arith, h.sum, u.0, mul-le-mul_left d above))
     up
 
-pub fits_up : (n d low rest high : ℕ) → Divides (n * grid) d low rest → IsUp low rest high → high ≤ largest * grid → n ≤ largest * d
-fits_up n d low rest high h up l = ⊎_elim {C = n ≤ largest * d}
+pub fits_up : (n d low rest high : ℕ) → Divides (n * grid) d low rest → IsUp low rest high → high ≤ LARGEST * grid → n ≤ LARGEST * d
+fits_up n d low rest high h up l = ⊎_elim {C = n ≤ LARGEST * d}
     (λ (u : (rest ≡ 0) × (high ≡ low)).
-    let below : low ≤ largest * grid = omega (arith, u.1) in
+    let below : low ≤ LARGEST * grid = omega (arith, u.1) in
     omega (arith, h.sum, u.0, mul-le-mul_left d below))
     (λ (u : (0 < rest) × (high ≡ low + 1)).
-    let below : low + 1 ≤ largest * grid = omega (arith, u.1) in
+    let below : low + 1 ≤ LARGEST * grid = omega (arith, u.1) in
     omega (arith, h.sum, h.below, mul-le-mul_left d below))
     up
 
-pub large_low : (n d low rest : ℕ) → 0 < d → Divides (n * grid) d low rest → largest * grid < low → largest * d < n
+pub large_low : (n d low rest : ℕ) → 0 < d → Divides (n * grid) d low rest → LARGEST * grid < low → LARGEST * d < n
 large_low n d low rest p h l =
-    let above : largest * grid + 1 ≤ low = omega arith in
+    let above : LARGEST * grid + 1 ≤ low = omega arith in
     omega (arith, h.sum, mul-le-mul_left d above)
 
 -- ---- what the code finds
@@ -216,8 +217,8 @@ pub record IsCut (d : Decimal) (cut places : ℕ) (kept rest : List ℕ) : Type 
   pub part_digits : AllPass is_ascii_digit d.part
   pub whole_short : length d.whole < 2 ^ 64
   pub part_short : length d.part < 2 ^ 64
-  pub cut_is : cut ≡ lowered_of (length d.part) d.down (min (digits_value 10 d.exponent) farthest) - raised_of d.down (min (digits_value 10 d.exponent) farthest)
-  pub zeros_is : places ≡ raised_of d.down (min (digits_value 10 d.exponent) farthest) - lowered_of (length d.part) d.down (min (digits_value 10 d.exponent) farthest)
+  pub cut_is : cut ≡ lowered_of (length d.part) d.down (min (digits_value 10 d.exponent) FARTHEST) - raised_of d.down (min (digits_value 10 d.exponent) FARTHEST)
+  pub zeros_is : places ≡ raised_of d.down (min (digits_value 10 d.exponent) FARTHEST) - lowered_of (length d.part) d.down (min (digits_value 10 d.exponent) FARTHEST)
   pub kept_is : kept ≡ take (length (d.whole ++ d.part) - cut) (d.whole ++ d.part)
   pub rest_is : rest ≡ drop (length (d.whole ++ d.part) - cut) (d.whole ++ d.part)
 
@@ -253,9 +254,9 @@ divided d cut places kept rest h =
 as_good : (d : Decimal) (cut places : ℕ) (kept rest : List ℕ) → IsCut d cut places kept rest → AreAsGood places (up_of d - down_of d)
 as_good d cut places kept rest h = subst (λ (x : ℕ). AreAsGood x (up_of d - down_of d)) (sym h.zeros_is) (zeros_same (length d.part) (digits_value 10 d.exponent) d.down (omega (arith, h.part_short)))
 
-pub kept_large : (d : Decimal) (cut places : ℕ) (kept rest : List ℕ) → IsCut d cut places kept rest → (digits_value 10 kept * 10 ^ places ≤ largest * grid → ⊥) → largest * denominator_of d < numerator_of d
+pub kept_large : (d : Decimal) (cut places : ℕ) (kept rest : List ℕ) → IsCut d cut places kept rest → (digits_value 10 kept * 10 ^ places ≤ LARGEST * grid → ⊥) → LARGEST * denominator_of d < numerator_of d
 kept_large d cut places kept rest h large =
-    let above : largest * grid < digits_value 10 kept * 10 ^ places = omega (arith, large) in
+    let above : LARGEST * grid < digits_value 10 kept * 10 ^ places = omega (arith, large) in
     large_low _ _ _ _ (denominator_positive d) (divided d cut places kept rest h) (low_large _ places _ (as_good d cut places kept rest h) above)
 
 -- whether a digit that is cut off is not 0, and the units rounded up
@@ -279,7 +280,7 @@ up_ordered low rest high up = ⊎_elim {C = low ≤ high}
 -- the units that the code finds
 pub record IsFound (d : Decimal) (cut places : ℕ) (kept rest : List ℕ) (low high : ℕ) : Type 0 where
   pub cut_off : IsCut d cut places kept rest
-  pub fits : digits_value 10 kept * 10 ^ places ≤ largest * grid
+  pub fits : digits_value 10 kept * 10 ^ places ≤ LARGEST * grid
   pub low_is : low ≡ digits_value 10 kept * 10 ^ places
   pub up : IsUpBy rest low high
 
@@ -289,7 +290,7 @@ found_divided d cut places kept rest low high f =
     let same = low_same _ places _ (as_good d cut places kept rest f.cut_off) f.fits in
     subst (λ (x : ℕ). Divides (numerator_of d * grid) (denominator_of d) x (digits_value 10 rest * 10 ^ up_of d)) (sym (f.low_is ∙ same)) (divided d cut places kept rest f.cut_off)
 
-pub found_rounded : (d : Decimal) (cut places : ℕ) (kept rest : List ℕ) (low high : ℕ) → IsFound d cut places kept rest low high → high ≤ largest * grid
+pub found_rounded : (d : Decimal) (cut places : ℕ) (kept rest : List ℕ) (low high : ℕ) → IsFound d cut places kept rest low high → high ≤ LARGEST * grid
     → IsRounded (numerator_of d) (denominator_of d) low high
 found_rounded d cut places kept rest low high f l =
     let by = found_divided d cut places kept rest low high f in
@@ -302,8 +303,8 @@ found_rounded d cut places kept rest low high f l =
       small = l;
     }
 
-pub found_large : (d : Decimal) (cut places : ℕ) (kept rest : List ℕ) (low high : ℕ) → IsFound d cut places kept rest low high → largest * grid < high
-    → largest * denominator_of d < numerator_of d
+pub found_large : (d : Decimal) (cut places : ℕ) (kept rest : List ℕ) (low high : ℕ) → IsFound d cut places kept rest low high → LARGEST * grid < high
+    → LARGEST * denominator_of d < numerator_of d
 found_large d cut places kept rest low high f l =
     large_up _ _ _ _ high (denominator_positive d) (found_divided d cut places kept rest low high f) (up_by rest low high (up_of d) (rest_pass d cut places kept rest f.cut_off) f.up) l
 
@@ -342,7 +343,7 @@ rest_cut xs ys k i j e f = ⊎_elim {C = drop i xs ++ drop j ys ≡ drop k (xs +
     (cases_lt k (length xs))
 
 pub cut_by : (negative : Bool) (whole part : List ℕ) (down : Bool) (exponent : List ℕ) (read cut places : ℕ) (kept rest : List ℕ)
-    → AllPass is_ascii_digit whole → AllPass is_ascii_digit part → length whole < 2 ^ 64 → length part < 2 ^ 64 → read ≡ min (digits_value 10 exponent) farthest
+    → AllPass is_ascii_digit whole → AllPass is_ascii_digit part → length whole < 2 ^ 64 → length part < 2 ^ 64 → read ≡ min (digits_value 10 exponent) FARTHEST
     → cut ≡ lowered_of (length part) down read - raised_of down read → places ≡ raised_of down read - lowered_of (length part) down read
     → kept ≡ take (length (whole ++ part) - cut) (whole ++ part) → rest ≡ drop (length (whole ++ part) - cut) (whole ++ part)
     → IsCut (decimal_from negative whole part down exponent) cut places kept rest
@@ -357,6 +358,6 @@ cut_by negative whole part down exponent read cut places kept rest w p lw lp e c
   rest_is = r;
 }
 
-pub found_by : (d : Decimal) (cut places : ℕ) (kept rest : List ℕ) (low high : ℕ) → IsCut d cut places kept rest → digits_value 10 kept * 10 ^ places ≤ largest * grid → low ≡ digits_value 10 kept * 10 ^ places
+pub found_by : (d : Decimal) (cut places : ℕ) (kept rest : List ℕ) (low high : ℕ) → IsCut d cut places kept rest → digits_value 10 kept * 10 ^ places ≤ LARGEST * grid → low ≡ digits_value 10 kept * 10 ^ places
     → IsUpBy rest low high → IsFound d cut places kept rest low high
 found_by d cut places kept rest low high c f l up = record { cut_off = c; fits = f; low_is = l; up = up }

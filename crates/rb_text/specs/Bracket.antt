@@ -9,22 +9,20 @@ use Rattle.rb_text.specs.Decimal.{Decimal, exact_value}
 use Rattle.rb_text.specs.Range.{Number, single, range, IsWritten, IsRange, number_of}
 use Rattle.rb_text.specs.declared.bracket.TextFault.{TextFault}
 use Rattle.rb_text.specs.declared.bracket.TextFault.TheVariants.{NotNumber, TooLarge, Backwards}
-
--- no number of a text is larger than this
-abbrev pub largest : ℕ
-largest = 1000000000000
+use Rattle.rb_text.specs.declared.size.TheConstants.{LARGEST}
+use Rattle.rb_num.specs.Least.{IsLeast}
 
 -- whether the size is above the largest
 abbrev pub is_large : Frac → Bool
-is_large x = nat_lt (largest * x.den) (unsigned_abs x.num)
+is_large x = nat_lt (LARGEST * x.den) (unsigned_abs x.num)
 
 -- size / tens is not too large, and in units of the grid `low` when rounded down and `high` when rounded up
 pub record IsRounded (size tens low high : ℕ) : Type 0 where
-  pub fits : size ≤ largest * tens
+  pub fits : size ≤ LARGEST * tens
   pub low_is : pos low ≡ floor_of (pos size *ℤ pos grid) tens
   pub high_is : pos high ≡ ceil_of (pos size *ℤ pos grid) tens
   pub ordered : low ≤ high
-  pub small : high ≤ largest * grid
+  pub small : high ≤ LARGEST * grid
 
 -- the value rounded down and up to the grid
 unfoldable pub rounded : Frac → Interval
@@ -54,18 +52,12 @@ bracket_of_number (Some (range lower upper)) = bracket_of_range (bracket_of_valu
 unfoldable pub bracket_of : List ℕ → Result Interval TextFault
 bracket_of text = bracket_of_number (number_of text)
 
--- the value lies in v, and v in each other interval that it lies in
-pub record IsLeast (x : Frac) (v : Interval) : Type 0 where
-  pub lies : LiesIn x v
-  pub low : (other : Interval) → LiesIn x other → other.lo ≤ℤ v.lo
-  pub high : (other : Interval) → LiesIn x other → v.hi ≤ℤ other.hi
-
 -- v goes from the lower end of the least interval of the one value to the upper end of that of the other
 pub record IsSpan (lower upper : Frac) (v : Interval) : Type 0 where
   pub first : Interval
   pub second : Interval
-  pub first_least : IsLeast lower first
-  pub second_least : IsLeast upper second
+  pub first_least : IsLeast (LiesIn lower) first
+  pub second_least : IsLeast (LiesIn upper) second
   pub low_is : v.lo ≡ first.lo
   pub high_is : v.hi ≡ second.hi
   pub low_ordered : first.lo ≤ℤ second.lo
@@ -73,7 +65,7 @@ pub record IsSpan (lower upper : Frac) (v : Interval) : Type 0 where
 
 -- v is the number's bracket
 abbrev pub IsBracketOf : Number → Interval → Type 0
-IsBracketOf (single d) v = IsLeast (exact_value d) v
+IsBracketOf (single d) v = IsLeast (LiesIn (exact_value d)) v
 IsBracketOf (range lower upper) v = IsSpan (exact_value lower) (exact_value upper) v
 
 -- the text says one number and no other, whose bracket is v
@@ -90,7 +82,7 @@ pub record IsNumber (text : List ℕ) : Type 0 where
 
 -- the size is above the largest
 abbrev pub IsLarge : Frac → Type 0
-IsLarge x = largest * x.den < unsigned_abs x.num
+IsLarge x = LARGEST * x.den < unsigned_abs x.num
 
 -- a value of the number is too large
 abbrev pub HasLarge : Number → Type 0
@@ -112,6 +104,6 @@ pub record IsBackwards (text : List ℕ) : Type 0 where
   pub upper_fits : ¬ IsLarge (exact_value upper)
   pub first : Interval
   pub second : Interval
-  pub first_least : IsLeast (exact_value lower) first
-  pub second_least : IsLeast (exact_value upper) second
+  pub first_least : IsLeast (LiesIn (exact_value lower)) first
+  pub second_least : IsLeast (LiesIn (exact_value upper)) second
   pub backwards : (second.lo <ℤ first.lo) ⊎ (second.hi <ℤ first.hi)

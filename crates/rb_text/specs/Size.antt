@@ -1,10 +1,6 @@
 -- How far a decimal is shifted to make units of the grid.
 use Rattle.std.specs.Prelude.{ℕ, ◌+◌, Bool, if◌then◌else◌}
 
--- past this exponent no digit of a text matters any more
-abbrev pub farthest : ℕ
-farthest = 1000000000000000000000000000000
-
 -- in units of the grid a decimal is its digits times 10 to this power,
 abbrev pub raised_of : Bool → ℕ → ℕ
 raised_of down exponent = if down then 12 else 12 + exponent

@@ -4,7 +4,8 @@ ghost use Rattle.std.specs.Char.{is_ascii_digit};
 ghost use Rattle.rb_num.specs.Interval.{interval, grid};
 ghost use Rattle.rb_text.specs.Decimal.{decimal_from, exact_value, decimal_of, lower_of, upper_of};
 ghost use Rattle.rb_text.specs.Range.{single_of, range_of};
-ghost use Rattle.rb_text.specs.Bracket.{largest, bracket_of, bracket_of_number, bracket_of_value, between as between_of, IsBracket, IsNumber, IsLargeNumber, IsBackwards};
+ghost use Rattle.rb_text.specs.Bracket.{bracket_of, bracket_of_number, bracket_of_value, between as between_of, IsBracket, IsNumber, IsLargeNumber, IsBackwards};
+ghost use Rattle.rb_text.specs.declared.size.TheConstants.{LARGEST};
 
 use crate::decimal::{Decimal, read_decimal, read_lower, read_upper};
 use crate::range::split;
@@ -16,7 +17,7 @@ use rb_num::Iv;
 pub enum TextFault {
     /// The text is neither a number nor a range.
     NotNumber,
-    /// The size of a number is above 10^12.
+    /// The size of a number is above `LARGEST`, 10^12.
     TooLarge,
     /// An end of the first number's bracket is above that of the second's.
     Backwards,
@@ -25,7 +26,7 @@ pub enum TextFault {
 // The interval of the numbers of these sizes.
 fn signed(negative: bool, low: u128, high: u128) -> Iv
     requires ordered { low ≤ high }
-    requires small { high ≤ largest * grid }
+    requires small { high ≤ LARGEST * grid }
     ensures { result ≡
         (if negative then interval (neg_ℤ (pos high)) (neg_ℤ (pos low)) else interval (pos low) (pos high)) }
 {

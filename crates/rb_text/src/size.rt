@@ -4,17 +4,21 @@ ghost use Rattle.std.specs.Option.{SomeIff};
 ghost use Rattle.std.specs.Char.{is_ascii_digit};
 ghost use Rattle.std.specs.Str.Parse.{digits_value, digits_value_after};
 ghost use Rattle.rb_num.specs.Interval.{grid};
-ghost use Rattle.rb_text.specs.Bracket.{largest, IsRounded};
+ghost use Rattle.rb_text.specs.Bracket.{IsRounded};
 ghost use Rattle.rb_text.specs.Decimal.{decimal_from, numerator_of, denominator_of};
-ghost use Rattle.rb_text.specs.Size.{farthest, raised_of, lowered_of};
+ghost use Rattle.rb_text.specs.Size.{raised_of, lowered_of};
 
 use crate::decimal::Decimal;
+use rb_num::S;
 
 /// How many units of the grid make one.
-pub const UNITS: u128 = 1_000_000_000_000;
+pub const UNITS: u128 = S as u128;
+
+/// The largest size of a number of a text.
+pub const LARGEST: u128 = 1_000_000_000_000;
 
 /// The largest size of a number, in units.
-const MOST: u128 = 1_000_000_000_000_000_000_000_000;
+const MOST: u128 = LARGEST * UNITS;
 
 /// Past this exponent no digit of a text matters any more.
 const FARTHEST: u128 = 1_000_000_000_000_000_000_000_000_000_000;
@@ -37,7 +41,7 @@ struct Shift {
 // The exponent that the digits write, or `FARTHEST` where it is above that.
 fn exponent_value(digits: &[u8]) -> u128
     requires { AllPass is_ascii_digit digits.now }
-    ensures { result ≡ min (digits_value 10 digits.now) farthest }
+    ensures { result ≡ min (digits_value 10 digits.now) FARTHEST }
 {
     let mut value: u128 = 0;
     for digit in digits {
@@ -50,7 +54,7 @@ fn exponent_value(digits: &[u8]) -> u128
 }
 
 fn shift_of(part: usize, down: bool, exponent: u128) -> Shift
-    requires { exponent ≤ farthest }
+    requires { exponent ≤ FARTHEST }
     ensures cut { result.cut ≡ lowered_of part down exponent - raised_of down exponent }
     ensures zeros { result.zeros ≡ raised_of down exponent - lowered_of part down exponent }
 {
@@ -90,8 +94,8 @@ fn cut_digits<'a>(whole: &'a [u8], part: &'a [u8], cut: u128) -> (Digits<'a>, Di
 // The number that the digits write behind those of `start`, where it is not above `MOST`.
 fn value_behind(start: u128, digits: &[u8]) -> Option<u128>
     requires digits { AllPass is_ascii_digit digits.now }
-    requires small { start ≤ largest * grid }
-    ensures { let value = digits_value_after 10 start digits.now in SomeIff result (value ≤ largest * grid) value }
+    requires small { start ≤ LARGEST * grid }
+    ensures { let value = digits_value_after 10 start digits.now in SomeIff result (value ≤ LARGEST * grid) value }
 {
     let mut value = start;
     for digit in digits {
@@ -105,8 +109,8 @@ fn value_behind(start: u128, digits: &[u8]) -> Option<u128>
 
 // The number with zeros behind its last digit, where it is not above `MOST`.
 fn with_zeros(number: u128, zeros: u128) -> Option<u128>
-    requires { number ≤ largest * grid }
-    ensures { SomeIff result (number * 10 ^ zeros ≤ largest * grid) (number * 10 ^ zeros) }
+    requires { number ≤ LARGEST * grid }
+    ensures { SomeIff result (number * 10 ^ zeros ≤ LARGEST * grid) (number * 10 ^ zeros) }
 {
     if number == 0 {
         return Some(0);
@@ -126,7 +130,7 @@ fn units(digits: Digits<'_>, zeros: u128) -> Option<u128>
     requires whole { AllPass is_ascii_digit digits.whole.now }
     requires part { AllPass is_ascii_digit digits.part.now }
     ensures { let value = digits_value 10 (digits.entry.whole.now ++ digits.entry.part.now) * 10 ^ zeros in
-        SomeIff result (value ≤ largest * grid) value }
+        SomeIff result (value ≤ LARGEST * grid) value }
 {
     let whole = value_behind(0, digits.whole)?;
     let all = value_behind(whole, digits.part)?;
@@ -153,7 +157,7 @@ pub fn size_of(decimal: Decimal<'_>) -> Option<(u128, u128)>
     requires exponent { AllPass is_ascii_digit decimal.exponent.now }
     ensures { let d = decimal.entry in
         let number = decimal_from d.negative d.whole.now d.part.now d.down d.exponent.now in
-        MatchOption result (largest * denominator_of number < numerator_of number) (λ r.
+        MatchOption result (LARGEST * denominator_of number < numerator_of number) (λ r.
         IsRounded (numerator_of number) (denominator_of number) r.0 r.1) }
 {
     let exponent = exponent_value(decimal.exponent);
