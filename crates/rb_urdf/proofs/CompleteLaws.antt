@@ -15,7 +15,7 @@ use Rattle.rb_urdf.specs.declared.joint.Follow.{Follow}
 use Rattle.rb_urdf.specs.declared.joint.Draft.{Draft}
 use Rattle.rb_urdf.specs.declared.mimic.Head.{Head}
 use Rattle.rb_urdf.specs.Robot.{Robot, HasMaster, FollowsWell}
-use Rattle.rb_urdf.specs.Elements.{Element, element_of, elements, child, attribute}
+use Rattle.rb_tags.specs.Elements.{Element, element_of, elements, child, attribute}
 use Rattle.rb_urdf.specs.Joints.{names_of_drafts}
 use Rattle.rb_urdf.specs.Mimics.{may_lead, following_kind, head_of, mimic_of, joint_with, joint_of, joints_after, joints_of}
 use Rattle.rb_urdf.specs.Urdf.{is_xacro, plain_tags, robot_with, robot_of, urdf_of}

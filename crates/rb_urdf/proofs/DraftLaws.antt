@@ -15,17 +15,21 @@ use Rattle.rb_urdf.specs.declared.faults.UrdfFaultKind.TheVariants.{BadType, NoP
 use Rattle.rb_urdf.specs.declared.joint.Ends.{Ends}
 use Rattle.rb_urdf.specs.declared.joint.Follow.{Follow}
 use Rattle.rb_urdf.specs.declared.joint.Draft.{Draft}
-use Rattle.rb_urdf.specs.Faults.{or_fault, placed}
 use Rattle.rb_urdf.specs.Robot.{plane_axis}
-use Rattle.rb_urdf.specs.Elements.{Element, child, attribute, attribute_in}
+use Rattle.rb_tags.specs.Elements.{Element, child, attribute, attribute_in}
 use Rattle.rb_urdf.specs.Numbers.{zero_interval, one_interval, zeros, first_axis, number_or, pose_of}
-use Rattle.rb_urdf.specs.Names.{name_after, number_of_name}
+use Rattle.rb_urdf.specs.Names.{name_after}
 use Rattle.rb_urdf.specs.Links.{names_of_links}
 use Rattle.rb_urdf.specs.Joints.{kind_named, kind_of, end_of, ends_of, axis_of, follow_in, follow_of, is_planar, is_exactly, is_plane_axis, unmoved, draft_of, names_of_drafts, drafts_after}
 use Rattle.rb_urdf.specs.Profile.{SaysNumber, SaysPose, HasName, NamesLink, SaysAxis, type_name, AreDifferent}
-use Rattle.rb_urdf.proofs.Results.{then-ok, or_fault-ok, placed-ok, unless-ok, both}
 use Rattle.rb_urdf.proofs.NumberLaws.{number_or-says, number_or-read, three_or-says, three_or-read, pose-says, pose-read}
 use Rattle.rb_urdf.proofs.NameLaws.{name_after-says, name_after-read, differ-push, differ-new, number-says, number-read}
+use Rattle.rb_tags.specs.Names.{number_of_name}
+use Rattle.std.specs.Option.{ok_or}
+use Rattle.rb_result.proofs.Results.{then-ok, found-ok, unless-ok, placed-ok}
+use Rattle.std.proofs.lemmas.Bool.{and_parts}
+use Rattle.rb_result.specs.Steps.{placed}
+use Rattle.rb_urdf.specs.Faults.{fault_at}
 
 -- types
 
@@ -74,7 +78,7 @@ kind_in (Some text) kind h = ap Some (kind_named-says text kind h)
 
 pub kind-says : (element : Element) (kind : UrdfKind) → kind_of element ≡ Ok kind → attribute (codes "type") element ≡ Some (type_name kind)
 unfolding kind_of
-kind-says element kind h = kind_in (attribute (codes "type") element) kind (or_fault-ok BadType _ kind h)
+kind-says element kind h = kind_in (attribute (codes "type") element) kind (found-ok _ BadType kind h)
 
 pub kind-read : (element : Element) (kind : UrdfKind) → attribute (codes "type") element ≡ Some (type_name kind) → kind_of element ≡ Ok kind
 unfolding kind_of
@@ -92,22 +96,22 @@ pub record EndsSaid (links : List UrdfLink) (element : Element) (ends : Ends) : 
 ends-say : (links : List UrdfLink) (element : Element) (ends : Ends) → ends_of (names_of_links links) element ≡ Ok ends → EndsSaid links element ends
 unfolding ends_of
 ends-say links element ends h =
-    let p = then-ok (or_fault NoParent (end_of (codes "parent") element)) _ ends h in
-    let q = then-ok (or_fault NoChild (end_of (codes "child") element)) _ ends p.2 in
-    let r = then-ok (or_fault UnknownLink (number_of_name (names_of_links links) p.0)) _ ends q.2 in
-    let s = then-ok (or_fault UnknownLink (number_of_name (names_of_links links) q.0)) _ ends r.2 in
+    let p = then-ok (ok_or (end_of (codes "parent") element) NoParent) _ ends h in
+    let q = then-ok (ok_or (end_of (codes "child") element) NoChild) _ ends p.2 in
+    let r = then-ok (ok_or (number_of_name (names_of_links links) p.0) UnknownLink) _ ends q.2 in
+    let s = then-ok (ok_or (number_of_name (names_of_links links) q.0) UnknownLink) _ ends r.2 in
     let parent : r.0 ≡ ends.parent = cc in
     let other : s.0 ≡ ends.child = cc in
     record {
-      parent = names-link links (child (codes "parent") element) p.0 ends.parent (or_fault-ok NoParent _ p.0 p.1) (or_fault-ok UnknownLink _ r.0 r.1 ∙ ap Some parent);
-      child_link = names-link links (child (codes "child") element) q.0 ends.child (or_fault-ok NoChild _ q.0 q.1) (or_fault-ok UnknownLink _ s.0 s.1 ∙ ap Some other);
+      parent = names-link links (child (codes "parent") element) p.0 ends.parent (found-ok _ NoParent p.0 p.1) (found-ok _ UnknownLink r.0 r.1 ∙ ap Some parent);
+      child_link = names-link links (child (codes "child") element) q.0 ends.child (found-ok _ NoChild q.0 q.1) (found-ok _ UnknownLink s.0 s.1 ∙ ap Some other);
     }
 
 -- axes
 
 exact-is : (units : ℤ) (v : Interval) → is_exactly units v ≡ true → v ≡ interval units units
 exact-is units v h =
-    let p = both (int_eq v.lo units) (int_eq v.hi units) h in
+    let p = and_parts (int_eq v.lo units) (int_eq v.hi units) h in
     let low : v.lo ≡ units = (Decides-int_eq v.lo units).0 p.0 in
     let high : v.hi ≡ units = (Decides-int_eq v.hi units).0 p.1 in
     ap (λ a. interval a v.hi) low ∙ ap (interval units) high
@@ -119,8 +123,8 @@ plane_axis-is (x ∷ []) h = absurd cc
 plane_axis-is (x ∷ y ∷ []) h = absurd cc
 plane_axis-is (x ∷ y ∷ z ∷ w ∷ v) h = absurd cc
 plane_axis-is (x ∷ y ∷ z ∷ []) h =
-    let p = both (is_exactly (pos 0) x && is_exactly (pos 0) y) (is_exactly (pos grid) z) h in
-    let q = both (is_exactly (pos 0) x) (is_exactly (pos 0) y) p.0 in
+    let p = and_parts (is_exactly (pos 0) x && is_exactly (pos 0) y) (is_exactly (pos grid) z) h in
+    let q = and_parts (is_exactly (pos 0) x) (is_exactly (pos 0) y) p.0 in
     rw (exact-is (pos 0) x q.0, exact-is (pos 0) y q.1, exact-is (pos grid) z p.1) refl
 
 pub plane_axis-exact : is_plane_axis plane_axis ≡ true
@@ -234,8 +238,8 @@ drafts-say links drafts [] all differ h =
     let same : drafts ≡ all = cc in
     record { more = []; are = sym same ∙ sym (append-nil drafts); each = tt; differ = subst (λ ds. AreDifferent (names_of_drafts ds)) same differ }
 drafts-say links drafts (element ∷ elements) all differ h =
-    let p = then-ok (placed element.tag.place (draft_of (names_of_links links) (names_of_drafts drafts) element)) _ all h in
-    let d = draft-says links (names_of_drafts drafts) element p.0 (placed-ok element.tag.place _ p.0 p.1) in
+    let p = then-ok (placed fault_at element.tag.place (draft_of (names_of_links links) (names_of_drafts drafts) element)) _ all h in
+    let d = draft-says links (names_of_drafts drafts) element p.0 (placed-ok fault_at element.tag.place _ p.0 p.1) in
     let names : names_of_drafts drafts ++ p.0.joint.name ∷ [] ≡ names_of_drafts (drafts ++ p.0 ∷ []) = sym (map-append (λ draft. draft.joint.name) drafts (p.0 ∷ [])) in
     let rest = drafts-say links (drafts ++ p.0 ∷ []) elements all (subst AreDifferent names (differ-push (names_of_drafts drafts) p.0.joint.name differ d.1)) p.2 in
     record { more = p.0 ∷ rest.more; are = rest.are ∙ append_assoc drafts (p.0 ∷ []) rest.more; each = (d.0, rest.each); differ = rest.differ }

@@ -9,8 +9,8 @@ use Rattle.rb_urdf.specs.declared.robot.UrdfLink.{UrdfLink}
 use Rattle.rb_urdf.specs.declared.faults.UrdfFault.{UrdfFault}
 use Rattle.rb_urdf.specs.declared.faults.UrdfFaultKind.{UrdfFaultKind}
 use Rattle.rb_urdf.specs.declared.faults.UrdfFaultKind.TheVariants.{NoRobot, Xacro, NoName, NameTwice, BadNumber, NegativeMass, BadType, NoParent, NoChild, UnknownLink, PlanarAxis, MimicUnknown, MimicChain, MimicMaster, Memory}
-use Rattle.rb_urdf.specs.Faults.{fault_at, placed}
-use Rattle.rb_urdf.specs.Elements.{Element, element_of, elements}
+use Rattle.rb_urdf.specs.Faults.{fault_at}
+use Rattle.rb_tags.specs.Elements.{Element, element_of, elements}
 use Rattle.rb_urdf.specs.Names.{name_of}
 use Rattle.rb_urdf.specs.Links.{link_of, links_after, names_of_links}
 use Rattle.rb_urdf.specs.Joints.{draft_of, drafts_after, names_of_drafts}
@@ -18,14 +18,16 @@ use Rattle.rb_urdf.specs.Mimics.{joints_of}
 use Rattle.rb_urdf.specs.Urdf.{is_xacro, plain_but, plain_tags, robot_with, robot_of, urdf_of}
 use Rattle.rb_urdf.specs.Profile.{IsLink, IsXacro}
 use Rattle.rb_urdf.specs.Refusals.{At, HasXacro, link_elements, joint_elements, HasFaultAt, HasFault}
-use Rattle.rb_urdf.proofs.Folds.{IsFold}
-use Rattle.rb_urdf.proofs.Results.{then-err, placed-ok, placed-err}
+use Rattle.rb_tags.proofs.Folds.{IsFold}
 use Rattle.rb_urdf.proofs.NameLaws.{differ-none}
 use Rattle.rb_urdf.proofs.LinkLaws.{links-say, link-says}
 use Rattle.rb_urdf.proofs.DraftLaws.{IsDraft, drafts-say, draft-says}
 use Rattle.rb_urdf.proofs.SoundLaws.{plain}
 use Rattle.rb_urdf.proofs.RefusedLaws.{LinkFault, name-refused, link-refused}
 use Rattle.rb_urdf.proofs.RefusedJointLaws.{JointFault, MimicFault, draft-refused, joints-refused}
+use Rattle.rb_result.proofs.Results.{then-err, placed-ok}
+use Rattle.rb_urdf.proofs.Placed.{placed-kind}
+use Rattle.rb_result.specs.Steps.{placed}
 
 push : {A B : Type 0} (R : A → B → Type 0) (xs : List A) (ys : List B) (x : A) (y : B) → AllZip R xs ys → R x y → AllZip R (xs ++ x ∷ []) (ys ++ y ∷ [])
 push R [] [] x y each r = (r, tt)
@@ -44,24 +46,24 @@ record Halts {A : Type 0} (step : List A → Element → Result A UrdfFaultKind)
   fails : step made element ≡ Err fault.kind
   place_is : fault.at ≡ element.tag.place
 
-module _ {A : Type 0} {after : List A → List Element → Result (List A) UrdfFault} {step : List A → Element → Result A UrdfFaultKind} (fold : IsFold after step) (R : Element → A → Type 0)
+module _ {A : Type 0} {after : List A → List Element → Result (List A) UrdfFault} {step : List A → Element → Result A UrdfFaultKind} (fold : IsFold fault_at after step) (R : Element → A → Type 0)
     (says : (made : List A) (element : Element) (x : A) → step made element ≡ Ok x → R element x) where
   halts : (before : List Element) (made : List A) (elements : List Element) (fault : UrdfFault) → AllZip R before made → after made elements ≡ Err fault → Halts step R (before ++ elements) fault
   halts before made [] fault each h = let clash : (let o : Result (List A) UrdfFault = Ok made in o) ≡ Err fault = sym (fold.none made) ∙ h in absurd cc
   halts before made (element ∷ elements) fault each h =
-      elim (then-err (placed element.tag.place (step made element)) _ fault (sym (fold.more made element elements) ∙ h)) [
+      elim (then-err (placed fault_at element.tag.place (step made element)) _ fault (sym (fold.more made element elements) ∙ h)) [
         | inl e ↦
-            let p = placed-err element.tag.place (step made element) fault e in
+            let p = placed-kind element.tag.place (step made element) fault e in
             record { before = before; made = made; each = each; element = element; others = elements; are = refl; fails = p.0; place_is = p.1 }
         | inr e ↦
-            let r = says made element e.0 (placed-ok element.tag.place (step made element) e.0 e.1) in
+            let r = says made element e.0 (placed-ok fault_at element.tag.place (step made element) e.0 e.1) in
             subst (λ all. Halts step R all fault) (append_assoc before (element ∷ []) elements)
             (halts (before ++ element ∷ []) (made ++ e.0 ∷ []) elements fault (push R before made element e.0 each r) e.2)
       ]
 
 -- links
 
-links_fold : IsFold links_after (λ links element. link_of (names_of_links links) element)
+links_fold : IsFold fault_at links_after (λ links element. link_of (names_of_links links) element)
 unfolding links_after
 links_fold = record { none = λ xs. refl; more = λ xs e es. refl }
 
@@ -89,7 +91,7 @@ link-fault tags Memory place a = absurd a.fault
 
 -- joints
 
-drafts_fold : (links : List (List ℕ)) → IsFold (drafts_after links) (λ drafts element. draft_of links (names_of_drafts drafts) element)
+drafts_fold : (links : List (List ℕ)) → IsFold fault_at (drafts_after links) (λ drafts element. draft_of links (names_of_drafts drafts) element)
 unfolding drafts_after
 drafts_fold links = record { none = λ xs. refl; more = λ xs e es. refl }
 
@@ -192,9 +194,9 @@ refused (root ∷ tags) fault h = by (bytes_eq root.name (codes "robot")) refl h
     by true e h =
         elim (then-err (plain_tags (root ∷ tags)) _ fault h) [
           | inl f ↦ plain-refused (find is_xacro (root ∷ tags)) (root ∷ tags) fault refl f
-          | inr a ↦ elim (then-err (placed root.place (name_of (element_of root tags))) _ fault a.2) [
+          | inr a ↦ elim (then-err (placed fault_at root.place (name_of (element_of root tags))) _ fault a.2) [
             | inl f ↦
-                let p = placed-err root.place (name_of (element_of root tags)) fault f in
+                let p = placed-kind root.place (name_of (element_of root tags)) fault f in
                 let n = name-refused (element_of root tags) fault.kind p.0 in
                 subst (λ kind. HasFaultAt (root ∷ tags) kind fault.at) n.0 (inl (n.1, p.1))
             | inr b ↦ robot-refused root b.0 tags fault b.2

@@ -9,7 +9,8 @@ use Rattle.rb_urdf.specs.declared.mimic.Head.{Head}
 use Rattle.rb_urdf.specs.Faults.{no_memory, placed_kind}
 use Rattle.rb_urdf.specs.Joints.{names_of_drafts}
 use Rattle.rb_urdf.specs.Mimics.{head_of, joint_of, joints_after, joints_of}
-use Rattle.rb_urdf.proofs.Folds.{step_fails, fails_along}
+use Rattle.rb_result.proofs.Placing.{step_fails, fails_along}
+use Rattle.rb_urdf.proofs.Placed.{is_placing}
 
 module _ (names : List (List ℕ)) (heads : List Head) (whole : Result (List UrdfJoint) UrdfFault) (joints : List UrdfJoint) (drafts : List Draft) (n : ℕ) where
   next_joint : Draft → List Draft → Result (List UrdfJoint) UrdfFault
@@ -24,7 +25,7 @@ module _ (names : List (List ℕ)) (heads : List Head) (whole : Result (List Urd
   pub joints-fail : (draft : Draft) (kind : UrdfFaultKind) (fault : UrdfFault) → whole ≡ joints_after names heads joints (drop n drafts) → n < length drafts → draft ≡ get_or drafts n draft → Err kind ≡ joint_of names heads draft → fault ≡ placed_kind kind draft.joint.place → (fault ≡ no_memory) ⊎ (whole ≡ Err fault)
   unfolding joints_after next_joint
   joints-fail draft kind fault all within is made f =
-      fails_along fault whole _ (all ∙ at_draft draft within is) (step_fails kind draft.joint.place fault (joint_of names heads draft) _ f (inr (sym made)))
+      fails_along no_memory fault whole _ (all ∙ at_draft draft within is) (step_fails is_placing kind draft.joint.place fault (joint_of names heads draft) _ f (inr (sym made)))
 
   pub joints-more : (draft : Draft) (joint : UrdfJoint) (more : List UrdfJoint) → whole ≡ joints_after names heads joints (drop n drafts) → n < length drafts → draft ≡ get_or drafts n draft → Ok joint ≡ joint_of names heads draft → more ≡ joints ++ joint ∷ [] → whole ≡ joints_after names heads more (drop (n + 1) drafts)
   unfolding joints_after next_joint

@@ -9,15 +9,16 @@ use Rattle.rb_urdf.specs.declared.robot.UrdfLink.{UrdfLink}
 use Rattle.rb_urdf.specs.declared.faults.UrdfFaultKind.{UrdfFaultKind}
 use Rattle.rb_urdf.specs.declared.faults.UrdfFaultKind.TheVariants.{NegativeMass}
 use Rattle.rb_urdf.specs.declared.link.Inertial.{Inertial}
-use Rattle.rb_urdf.specs.Faults.{placed}
-use Rattle.rb_urdf.specs.Elements.{Element, child, child_in}
+use Rattle.rb_tags.specs.Elements.{Element, child, child_in}
 use Rattle.rb_urdf.specs.Numbers.{zero_interval, number_or, pose_of}
 use Rattle.rb_urdf.specs.Names.{name_after}
 use Rattle.rb_urdf.specs.Links.{six_of, inertial_of, link_with, link_of, links_after, names_of_links}
 use Rattle.rb_urdf.specs.Profile.{SaysSix, IsInertial, IsLink, AreDifferent}
-use Rattle.rb_urdf.proofs.Results.{then-ok, placed-ok, unless-ok}
 use Rattle.rb_urdf.proofs.NumberLaws.{number_or-says, number_or-read, pose-says, pose-read}
 use Rattle.rb_urdf.proofs.NameLaws.{name_after-says, name_after-read, differ-push, differ-new}
+use Rattle.rb_result.proofs.Results.{then-ok, unless-ok, placed-ok}
+use Rattle.rb_result.specs.Steps.{placed}
+use Rattle.rb_urdf.specs.Faults.{fault_at}
 
 not_below : (z : ℤ) → int_lt z (pos 0) ≡ false → pos 0 ≤ℤ z
 not_below z h = grind (arith, ints)
@@ -122,8 +123,8 @@ links-say links [] all differ h =
     let same : links ≡ all = cc in
     record { more = []; are = sym same ∙ sym (append-nil links); each = tt; differ = subst (λ ls. AreDifferent (names_of_links ls)) same differ }
 links-say links (element ∷ elements) all differ h =
-    let p = then-ok (placed element.tag.place (link_of (names_of_links links) element)) _ all h in
-    let l = link-says (names_of_links links) element p.0 (placed-ok element.tag.place _ p.0 p.1) in
+    let p = then-ok (placed fault_at element.tag.place (link_of (names_of_links links) element)) _ all h in
+    let l = link-says (names_of_links links) element p.0 (placed-ok fault_at element.tag.place _ p.0 p.1) in
     let names : names_of_links links ++ p.0.name ∷ [] ≡ names_of_links (links ++ p.0 ∷ []) = sym (map-append (λ link. link.name) links (p.0 ∷ [])) in
     let rest = links-say (links ++ p.0 ∷ []) elements all (subst AreDifferent names (differ-push (names_of_links links) p.0.name differ l.1)) p.2 in
     record { more = p.0 ∷ rest.more; are = rest.are ∙ append_assoc links (p.0 ∷ []) rest.more; each = (l.0, rest.each); differ = rest.differ }

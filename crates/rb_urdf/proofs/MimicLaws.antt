@@ -1,5 +1,5 @@
 -- The joints that follow others are those that the elements describe.
-use Rattle.std.proofs.Common.{◌≡◌, ◌⊎◌, inl, inr, ℕ, true, false, not, ◌||◌, List, [], ◌∷◌, ◌++◌, map, slice_get, is_some, Option, Some, None, Result, Ok, refl, sym, ap, ◌∙◌, subst, append_assoc}
+use Rattle.std.proofs.Common.{Bool, ◌≡◌, ◌⊎◌, inl, inr, ℕ, true, false, not, ◌||◌, List, [], ◌∷◌, ◌++◌, map, slice_get, is_some, Option, Some, None, Result, Ok, refl, sym, ap, ◌∙◌, subst, append_assoc}
 use Rattle.std.specs.Prelude.{codes, option_and_then}
 use Rattle.std.specs.List.{AllZip}
 use Rattle.std.proofs.lemmas.List.{append-nil}
@@ -13,18 +13,25 @@ use Rattle.rb_urdf.specs.declared.faults.UrdfFaultKind.TheVariants.{MimicUnknown
 use Rattle.rb_urdf.specs.declared.joint.Follow.{Follow}
 use Rattle.rb_urdf.specs.declared.joint.Draft.{Draft}
 use Rattle.rb_urdf.specs.declared.mimic.Head.{Head}
-use Rattle.rb_urdf.specs.Faults.{or_fault, placed}
 use Rattle.rb_urdf.specs.Robot.{HasMaster, FollowsWell}
-use Rattle.rb_urdf.specs.Elements.{Element, child}
+use Rattle.rb_tags.specs.Elements.{Element, child}
 use Rattle.rb_urdf.specs.Numbers.{zero_interval, one_interval}
-use Rattle.rb_urdf.specs.Names.{number_of_name}
 use Rattle.rb_urdf.specs.Joints.{names_of_drafts}
 use Rattle.rb_urdf.specs.Mimics.{may_lead, following_kind, head_of, mimic_of, joint_with, joint_of, joints_after}
 use Rattle.rb_urdf.specs.Profile.{SaysNumber, SaysMimic, kind_of_type, IsJoint, joint_names}
-use Rattle.rb_urdf.proofs.Results.{then-ok, or_fault-ok, placed-ok, unless-ok, neither}
 use Rattle.rb_urdf.proofs.NameLaws.{number-says}
 use Rattle.rb_urdf.proofs.DraftLaws.{IsDraft, SaysFollow}
 use Rattle.rb_urdf.proofs.Zips.{beside, beside_left, same-maps, slice_get-of_map}
+use Rattle.rb_tags.specs.Names.{number_of_name}
+use Rattle.std.specs.Option.{ok_or}
+use Rattle.rb_result.proofs.Results.{then-ok, found-ok, unless-ok, placed-ok}
+use Rattle.rb_result.specs.Steps.{placed}
+use Rattle.rb_urdf.specs.Faults.{fault_at}
+
+neither : (a b : Bool) → (not a || not b) ≡ false → (a ≡ true) × (b ≡ true)
+neither true true h = (refl, refl)
+neither true false h = absurd cc
+neither false b h = absurd cc
 
 leading : (kind : UrdfKind) → may_lead kind ≡ true → (kind ≡ Revolute) ⊎ (kind ≡ Prismatic)
 leading Revolute h = inl refl
@@ -58,19 +65,19 @@ number-in names (Some name) n h = (name, refl, number-says names name n h)
 mimic-found : (names : List (List ℕ)) (heads : List Head) (kind : UrdfKind) (follow : Follow) (mimic : UrdfMimic) → mimic_of names heads kind follow ≡ Ok mimic → Found names heads kind follow mimic
 unfolding mimic_of
 mimic-found names heads kind follow mimic h =
-    let a = then-ok (or_fault MimicUnknown (option_and_then (number_of_name names) follow.master)) _ mimic h in
-    let b = then-ok (or_fault MimicUnknown (slice_get heads a.0)) _ mimic a.2 in
+    let a = then-ok (ok_or (option_and_then (number_of_name names) follow.master) MimicUnknown) _ mimic h in
+    let b = then-ok (ok_or (slice_get heads a.0) MimicUnknown) _ mimic a.2 in
     let c = unless-ok b.0.follows MimicChain _ mimic b.2 in
     let d = unless-ok (not (may_lead b.0.kind) || not (may_lead (following_kind kind))) MimicMaster (Ok (record { master = a.0; multiplier = follow.multiplier; offset = follow.offset })) mimic c.1 in
     let made : record { master = a.0; multiplier = follow.multiplier; offset = follow.offset } ≡ mimic = ok-same _ mimic d.1 in
-    let n = number-in names follow.master a.0 (or_fault-ok MimicUnknown _ a.0 a.1) in
+    let n = number-in names follow.master a.0 (found-ok _ MimicUnknown a.0 a.1) in
     let k = neither (may_lead b.0.kind) (may_lead (following_kind kind)) d.0 in
     subst (Found names heads kind follow) made (record {
       name = n.0;
       says = n.1;
       named = n.2;
       head = b.0;
-      is = or_fault-ok MimicUnknown _ b.0 b.1;
+      is = found-ok _ MimicUnknown b.0 b.1;
       leads = c.0;
       leading = k.0;
       follows = k.1;
@@ -98,9 +105,9 @@ joints-say names heads joints [] all h =
     let same : joints ≡ all = cc in
     record { more = []; are = sym same ∙ sym (append-nil joints); each = tt }
 joints-say names heads joints (draft ∷ drafts) all h =
-    let p = then-ok (placed draft.joint.place (joint_of names heads draft)) _ all h in
+    let p = then-ok (placed fault_at draft.joint.place (joint_of names heads draft)) _ all h in
     let rest = joints-say names heads (joints ++ p.0 ∷ []) drafts all p.2 in
-    record { more = p.0 ∷ rest.more; are = rest.are ∙ append_assoc joints (p.0 ∷ []) rest.more; each = (placed-ok draft.joint.place _ p.0 p.1, rest.each) }
+    record { more = p.0 ∷ rest.more; are = rest.are ∙ append_assoc joints (p.0 ∷ []) rest.more; each = (placed-ok fault_at draft.joint.place _ p.0 p.1, rest.each) }
 
 -- a settled joint keeps its name
 settled-name : (names : List (List ℕ)) (heads : List Head) (joint : UrdfJoint) (follow : Option Follow) (settled : UrdfJoint) → joint_with names heads joint follow ≡ Ok settled → joint.name ≡ settled.name

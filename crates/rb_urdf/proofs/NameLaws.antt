@@ -1,6 +1,6 @@
 -- Names that are given, and that differ.
-use Rattle.std.proofs.Common.{◌≡◌, ◌≢◌, ℕ, zero, suc, ◌+◌, ◌<◌, inl, inr, Bool, true, false, ◌||◌, List, [], ◌∷◌, ◌++◌, length, get_or, slice_get, Some, Ok, refl, sym, ap, ◌∙◌, subst, arith, true≢false}
-use Rattle.std.specs.Prelude.{bytes_eq, codes}
+use Rattle.std.proofs.Common.{eqb, ne_eqb, Option, None, ◌≡◌, ◌≢◌, ℕ, zero, suc, ◌+◌, ◌<◌, inl, inr, Bool, true, false, ◌||◌, List, [], ◌∷◌, ◌++◌, length, get_or, slice_get, Some, Ok, refl, sym, ap, ◌∙◌, subst, arith, true≢false}
+use Rattle.std.specs.Prelude.{bytes_eq, codes, option_and_then}
 use Rattle.std.specs.List.{list_any, position_or_len}
 use Rattle.std.proofs.lemmas.Bool.{cases_lt}
 use Rattle.std.proofs.lemmas.Bool.Decides.{nat_tests}
@@ -12,35 +12,33 @@ use Rattle.std.proofs.lemmas.List.Sums.{position_or_len_is}
 use Rattle.std.proofs.lemmas.List.Folds.{list_any_none}
 use Rattle.std.proofs.lemmas.List.Quantifiers.{position-Some}
 use Rattle.rb_urdf.specs.declared.faults.UrdfFaultKind.TheVariants.{NoName, NameTwice}
-use Rattle.rb_urdf.specs.Faults.{or_fault}
-use Rattle.rb_urdf.specs.Elements.{Element, attribute}
-use Rattle.rb_urdf.specs.Names.{number_of_name, given_name, new_name, name_of, name_after}
+use Rattle.rb_tags.specs.Elements.{Element, attribute, given, filled}
+use Rattle.rb_urdf.specs.Names.{new_name, name_of, name_after}
 use Rattle.rb_urdf.specs.Profile.{HasName, AreDifferent}
-use Rattle.rb_urdf.proofs.Results.{then-ok, or_fault-ok, unless-ok}
+use Rattle.rb_tags.specs.Names.{number_of_name}
+use Rattle.rb_result.proofs.Results.{then-ok, found-ok, unless-ok}
 
-given-says : (name said : List ℕ) → given_name name ≡ Ok said → (name ≡ said) × (said ≢ [])
-unfolding given_name
-given-says [] said h = absurd cc
-given-says (b ∷ bs) said h =
-    let u = unless-ok _ NoName (Ok (b ∷ bs)) said h in
-    let same : b ∷ bs ≡ said = cc in
-    (same, λ none. let clash : b ∷ bs ≡ [] = same ∙ none in absurd cc)
+filled-says : (text : Option (List ℕ)) (said : List ℕ) → option_and_then filled text ≡ Some said → (text ≡ Some said) × (said ≢ [])
+filled-says None said h = absurd cc
+filled-says (Some []) said h = absurd cc
+filled-says (Some (b ∷ bs)) said h =
+    let full : eqb (length (b ∷ bs)) 0 ≡ false = ne_eqb (length (b ∷ bs)) 0 (λ e. omega arith) in
+    let same : Some (b ∷ bs) ≡ Some said = rw full at h in
+    (same, λ none. let clash : Some (b ∷ bs) ≡ Some [] = same ∙ ap Some none in absurd cc)
+
+filled-read : (said : List ℕ) → said ≢ [] → filled said ≡ Some said
+filled-read [] some = absurd (some refl)
+filled-read (b ∷ bs) some = rw (ne_eqb (length (b ∷ bs)) 0 (λ e. omega arith)) refl
 
 pub name-says : (element : Element) (name : List ℕ) → name_of element ≡ Ok name → HasName element name
-unfolding name_of
+unfolding name_of given
 name-says element name h =
-    let p = then-ok (or_fault NoName (attribute (codes "name") element)) given_name name h in
-    let g = given-says p.0 name p.2 in
-    record { says = or_fault-ok NoName _ p.0 p.1 ∙ ap Some g.0; given = g.1 }
-
-given-read : (name : List ℕ) → name ≢ [] → given_name name ≡ Ok name
-unfolding given_name
-given-read [] some = absurd (some refl)
-given-read (b ∷ bs) some = let full : (length (b ∷ bs) ≡ 0) → ⊥ = λ e. omega arith in grind (arith, nat_tests)
+    let f = filled-says (attribute (codes "name") element) name (found-ok (given (codes "name") element) NoName name h) in
+    record { says = f.0; given = f.1 }
 
 pub name-read : (element : Element) (name : List ℕ) → HasName element name → name_of element ≡ Ok name
-unfolding name_of
-name-read element name h = rw h.says (given-read name h.given)
+unfolding name_of given
+name-read element name h = rw (h.says, filled-read name h.given) refl
 
 pub new-says : (names : List (List ℕ)) (name said : List ℕ) → new_name names name ≡ Ok said → (name ≡ said) × (list_any (bytes_eq said) names ≡ false)
 unfolding new_name

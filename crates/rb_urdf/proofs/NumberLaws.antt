@@ -1,59 +1,32 @@
 -- The numbers that were read are those that the texts say.
-use Rattle.std.proofs.Common.{◌≡◌, ℕ, List, [], ◌∷◌, Option, Some, None, Result, Ok, Err, refl, sym, ap, ◌∙◌}
+use Rattle.std.proofs.Common.{◌≡◌, ℕ, List, Option, Some, None, Result, Ok, refl, sym, ap, ◌∙◌}
 use Rattle.std.specs.Prelude.{codes}
 use Rattle.rb_num.specs.Interval.{Interval}
 use Rattle.rb_text.specs.Bracket.{bracket_of}
-use Rattle.rb_text.specs.declared.bracket.TextFault.{TextFault}
 use Rattle.rb_urdf.specs.declared.faults.UrdfFaultKind.{UrdfFaultKind}
 use Rattle.rb_urdf.specs.declared.numbers.Pose.{Pose}
-use Rattle.rb_urdf.specs.Elements.{Element, attribute_in}
-use Rattle.rb_urdf.specs.Numbers.{or_bad, number_in, three_words, three_in, said_or, number_or, three_or, pose_of, words, zeros}
-use Rattle.rb_urdf.specs.Profile.{SaidOr, IsNumber, IsThree, SaysNumber, SaysThree, SaysPose}
-use Rattle.rb_urdf.proofs.Results.{then-ok}
-
-or_bad-ok : (r : Result Interval TextFault) (v : Interval) → or_bad r ≡ Ok v → r ≡ Ok v
-or_bad-ok (Ok w) v h = let same : w ≡ v = cc in ap Ok same
-or_bad-ok (Err e) v h = absurd cc
+use Rattle.rb_tags.specs.Elements.{Element, attribute_in}
+use Rattle.rb_urdf.specs.Numbers.{number_in, three_in, said_or, number_or, three_or, pose_of, zeros, as_bad_number}
+use Rattle.rb_urdf.specs.Profile.{SaidOr, IsNumber, SaysNumber, SaysThree, SaysPose}
+use Rattle.rb_text.specs.Three.{IsThree, three_of}
+use Rattle.rb_result.proofs.Results.{then-ok, told-ok}
+use Rattle.rb_text.proofs.Threes.{three_says, three_read}
 
 number-says : (text : List ℕ) (v : Interval) → number_in text ≡ Ok v → IsNumber text v
 unfolding number_in
-number-says text v h = or_bad-ok (bracket_of text) v h
+number-says text v h = told-ok as_bad_number (bracket_of text) v h
 
 number-read : (text : List ℕ) (v : Interval) → IsNumber text v → number_in text ≡ Ok v
 unfolding number_in
 number-read text v h = rw h refl
 
-three_words-says : (text : List ℕ) (ws : List (List ℕ)) (v : List Interval) → words text ≡ ws → three_words ws ≡ Ok v → IsThree text v
-three_words-says text [] v w h = absurd cc
-three_words-says text (a ∷ []) v w h = absurd cc
-three_words-says text (a ∷ b ∷ []) v w h = absurd cc
-three_words-says text (a ∷ b ∷ c ∷ d ∷ ws) v w h = absurd cc
-three_words-says text (a ∷ b ∷ c ∷ []) v w h =
-    let p = then-ok (number_in a) _ v h in
-    let q = then-ok (number_in b) _ v p.2 in
-    let r = then-ok (number_in c) _ v q.2 in
-    record {
-      first = a;
-      second = b;
-      third = c;
-      x = p.0;
-      y = q.0;
-      z = r.0;
-      words_are = w;
-      x_is = number-says a p.0 p.1;
-      y_is = number-says b q.0 q.1;
-      z_is = number-says c r.0 r.1;
-      are = let same : v ≡ p.0 ∷ q.0 ∷ r.0 ∷ [] = cc in same;
-    }
-
 three-says : (text : List ℕ) (v : List Interval) → three_in text ≡ Ok v → IsThree text v
 unfolding three_in
-three-says text v h = three_words-says text (words text) v refl h
+three-says text v h = three_says text v (told-ok as_bad_number (three_of text) v h)
 
 three-read : (text : List ℕ) (v : List Interval) → IsThree text v → three_in text ≡ Ok v
 unfolding three_in
-three-read text v t =
-    rw (t.words_are, number-read t.first t.x t.x_is, number-read t.second t.y t.y_is, number-read t.third t.z t.z_is) (ap Ok (sym t.are))
+three-read text v t = rw (three_read text v t) refl
 
 said-says : {A : Type 0} (default : A) (read : List ℕ → Result A UrdfFaultKind) (Says : List ℕ → A → Type 0) → ((text : List ℕ) (v : A) → read text ≡ Ok v → Says text v) → (said : Option (List ℕ)) (v : A) → said_or default read said ≡ Ok v → SaidOr default Says said v
 said-says default read Says each None v h = let same : v ≡ default = cc in same

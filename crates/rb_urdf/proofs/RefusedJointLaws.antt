@@ -16,26 +16,30 @@ use Rattle.rb_urdf.specs.declared.faults.UrdfFaultKind.TheVariants.{NoName, Name
 use Rattle.rb_urdf.specs.declared.joint.Follow.{Follow}
 use Rattle.rb_urdf.specs.declared.joint.Draft.{Draft}
 use Rattle.rb_urdf.specs.declared.mimic.Head.{Head}
-use Rattle.rb_urdf.specs.Faults.{or_fault, placed}
 use Rattle.rb_urdf.specs.Robot.{plane_axis}
-use Rattle.rb_urdf.specs.Elements.{Element, child}
+use Rattle.rb_tags.specs.Elements.{Element, child}
 use Rattle.rb_urdf.specs.Numbers.{zero_interval, one_interval, first_axis, number_or, pose_of}
-use Rattle.rb_urdf.specs.Names.{number_of_name, name_after}
+use Rattle.rb_urdf.specs.Names.{name_after}
 use Rattle.rb_urdf.specs.Links.{names_of_links}
 use Rattle.rb_urdf.specs.Joints.{kind_of, end_of, ends_of, axis_of, follow_in, follow_of, is_planar, is_plane_axis, unmoved, draft_of, names_of_drafts}
 use Rattle.rb_urdf.specs.Mimics.{may_lead, following_kind, head_of, mimic_of, joint_with, joint_of, joints_after}
 use Rattle.rb_urdf.specs.Profile.{HasName, IsLink}
 use Rattle.rb_urdf.specs.Refusals.{SaysNone, LacksName, HasNameAgain, HasType, LacksEnd, NoneHasName, HasUnknownEnd, SaysAxisNumbers, HasBadMimic, JointHasBadNumber, HasOtherAxis, FollowsNone, Follows, FollowsFollower, FollowsUnfit, At}
-use Rattle.rb_urdf.proofs.Results.{then-err, placed-err, or_fault-ok, or_fault-err, unless-err, not-both}
 use Rattle.rb_urdf.proofs.NumberLaws.{three_or-says}
 use Rattle.rb_urdf.proofs.NameLaws.{number-says}
 use Rattle.rb_urdf.proofs.DraftLaws.{IsDraft, IsFollow, SaysFollow, kind-says, kind-read, plane_axis-exact}
 use Rattle.rb_urdf.proofs.RefusedLaws.{number-refused, three-refused, pose-refused, name_after-refused}
 use Rattle.rb_urdf.proofs.Zips.{beside_left, slice_get-of_map, slice_get-to_map}
+use Rattle.rb_tags.specs.Names.{number_of_name}
+use Rattle.std.specs.Option.{ok_or}
+use Rattle.rb_result.proofs.Results.{then-err, found-ok, found-err, unless-err, not-both}
+use Rattle.rb_urdf.proofs.Placed.{placed-kind}
+use Rattle.rb_result.specs.Steps.{placed}
+use Rattle.rb_urdf.specs.Faults.{fault_at}
 
 kind-refused : (joint : Element) (k : UrdfFaultKind) → kind_of joint ≡ Err k → (BadType ≡ k) × SaysNone (HasType joint)
 unfolding kind_of
-kind-refused joint k h = ((or_fault-err BadType _ k h).0, λ type s. not-both (kind_of joint) type k (kind-read joint type s) h)
+kind-refused joint k h = ((found-err _ BadType k h).0, λ type s. not-both (kind_of joint) type k (kind-read joint type s) h)
 
 -- a name that no element has
 
@@ -95,18 +99,18 @@ module _ (elements : List Element) (links : List UrdfLink) (are_links : AllZip I
   ends-refused : (k : UrdfFaultKind) → ends_of (names_of_links links) joint ≡ Err k → JointFault elements before joint k
   unfolding ends_of
   ends-refused k h =
-      elim (then-err (or_fault NoParent (end_of (codes "parent") joint)) _ k h) [
-        | inl e ↦ let r = or_fault-err NoParent (end_of (codes "parent") joint) k e in subst (JointFault elements before joint) r.0 r.1
-        | inr p ↦ elim (then-err (or_fault NoChild (end_of (codes "child") joint)) _ k p.2) [
-          | inl e ↦ let r = or_fault-err NoChild (end_of (codes "child") joint) k e in subst (JointFault elements before joint) r.0 r.1
-          | inr q ↦ elim (then-err (or_fault UnknownLink (number_of_name (names_of_links links) p.0)) _ k q.2) [
+      elim (then-err (ok_or (end_of (codes "parent") joint) NoParent) _ k h) [
+        | inl e ↦ let r = found-err (end_of (codes "parent") joint) NoParent k e in subst (JointFault elements before joint) r.0 r.1
+        | inr p ↦ elim (then-err (ok_or (end_of (codes "child") joint) NoChild) _ k p.2) [
+          | inl e ↦ let r = found-err (end_of (codes "child") joint) NoChild k e in subst (JointFault elements before joint) r.0 r.1
+          | inr q ↦ elim (then-err (ok_or (number_of_name (names_of_links links) p.0) UnknownLink) _ k q.2) [
             | inl e ↦
-                let r = or_fault-err UnknownLink (number_of_name (names_of_links links) p.0) k e in
-                subst (JointFault elements before joint) r.0 (inl (record { name = p.0; says = or_fault-ok NoParent _ p.0 p.1; unknown = unknown-link p.0 r.1 }))
-            | inr n ↦ elim (then-err (or_fault UnknownLink (number_of_name (names_of_links links) q.0)) _ k n.2) [
+                let r = found-err (number_of_name (names_of_links links) p.0) UnknownLink k e in
+                subst (JointFault elements before joint) r.0 (inl (record { name = p.0; says = found-ok _ NoParent p.0 p.1; unknown = unknown-link p.0 r.1 }))
+            | inr n ↦ elim (then-err (ok_or (number_of_name (names_of_links links) q.0) UnknownLink) _ k n.2) [
               | inl e ↦
-                  let r = or_fault-err UnknownLink (number_of_name (names_of_links links) q.0) k e in
-                  subst (JointFault elements before joint) r.0 (inr (record { name = q.0; says = or_fault-ok NoChild _ q.0 q.1; unknown = unknown-link q.0 r.1 }))
+                  let r = found-err (number_of_name (names_of_links links) q.0) UnknownLink k e in
+                  subst (JointFault elements before joint) r.0 (inr (record { name = q.0; says = found-ok _ NoChild q.0 q.1; unknown = unknown-link q.0 r.1 }))
               | inr m ↦ absurd cc
             ]
           ]
@@ -283,15 +287,15 @@ module _ (links : List UrdfLink) (joints : List Element) (drafts : List Draft) (
     mimic-refused : (k : UrdfFaultKind) → mimic_of names heads base.kind follow ≡ Err k → MimicFault joints joint k
     unfolding mimic_of
     mimic-refused k h =
-        elim (then-err (or_fault MimicUnknown (option_and_then (number_of_name names) follow.master)) _ k h) [
-          | inl e ↦ let r = or_fault-err MimicUnknown _ k e in subst (MimicFault joints joint) r.0 (none-named r.1)
+        elim (then-err (ok_or (option_and_then (number_of_name names) follow.master) MimicUnknown) _ k h) [
+          | inl e ↦ let r = found-err _ MimicUnknown k e in subst (MimicFault joints joint) r.0 (none-named r.1)
           | inr a ↦
-              let at = number-in follow.master a.0 (or_fault-ok MimicUnknown _ a.0 a.1) in
+              let at = number-in follow.master a.0 (found-ok _ MimicUnknown a.0 a.1) in
               let n = find-named a.0 at.0 at.2 in
-              elim (then-err (or_fault MimicUnknown (slice_get heads a.0)) _ k a.2) [
-                | inl e ↦ let r = or_fault-err MimicUnknown (slice_get heads a.0) k e in let clash : Some (head_of n.draft) ≡ None = sym n.head ∙ r.1 in absurd cc
+              elim (then-err (ok_or (slice_get heads a.0) MimicUnknown) _ k a.2) [
+                | inl e ↦ let r = found-err (slice_get heads a.0) MimicUnknown k e in let clash : Some (head_of n.draft) ≡ None = sym n.head ∙ r.1 in absurd cc
                 | inr b ↦
-                    let same = same-head a.0 at.0 n b.0 (or_fault-ok MimicUnknown _ b.0 b.1) in
+                    let same = same-head a.0 at.0 n b.0 (found-ok _ MimicUnknown b.0 b.1) in
                     elim (unless-err b.0.follows MimicChain _ k b.2) [
                       | inl e ↦ subst (MimicFault joints joint) e.1 (chain a.0 at.0 n at.1 (ap (λ h. h.follows) same ∙ e.0))
                       | inr c ↦ elim (unless-err (not (may_lead b.0.kind) || not (may_lead (following_kind base.kind))) MimicMaster _ k c.1) [
@@ -317,9 +321,9 @@ module _ (links : List UrdfLink) (joints : List Element) (drafts : List Draft) (
   joints-refused done before [] eb (e ∷ es) fault d j each h = absurd each
   joints-refused done before (x ∷ xs) eb [] fault d j each h = absurd each
   joints-refused done before (x ∷ xs) eb (e ∷ es) fault d j each h =
-      elim (then-err (placed x.joint.place (joint_of names heads x)) _ fault h) [
+      elim (then-err (placed fault_at x.joint.place (joint_of names heads x)) _ fault h) [
         | inl f ↦
-            let p = placed-err x.joint.place (joint_of names heads x) fault f in
+            let p = placed-kind x.joint.place (joint_of names heads x) fault f in
             record { before = eb; element = e; others = es; are = j; place_is = p.1 ∙ each.0.place; fault = joint-refused e x.joint x.follow each.0 fault.kind p.0 }
         | inr f ↦ joints-refused (done ++ f.0 ∷ []) (before ++ x ∷ []) xs (eb ++ e ∷ []) es fault (d ∙ sym (append_assoc before (x ∷ []) xs)) (j ∙ sym (append_assoc eb (e ∷ []) es)) each.1 f.2
       ]

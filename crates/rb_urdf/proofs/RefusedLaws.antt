@@ -6,52 +6,31 @@ use Rattle.std.proofs.lemmas.Int.{ints}
 use Rattle.std.proofs.lemmas.Slice.Eq.{bytes_eq-Decides}
 use Rattle.rb_num.specs.Interval.{Interval}
 use Rattle.rb_text.specs.Bracket.{bracket_of}
-use Rattle.rb_text.specs.declared.bracket.TextFault.{TextFault}
 use Rattle.rb_urdf.specs.declared.robot.UrdfLink.{UrdfLink}
 use Rattle.rb_urdf.specs.declared.faults.UrdfFaultKind.{UrdfFaultKind}
 use Rattle.rb_urdf.specs.declared.faults.UrdfFaultKind.TheVariants.{NoName, NameTwice, BadNumber, NegativeMass}
-use Rattle.rb_urdf.specs.Faults.{or_fault}
-use Rattle.rb_urdf.specs.Elements.{Element, child, child_in, attribute, attribute_in}
-use Rattle.rb_urdf.specs.Numbers.{or_bad, zero_interval, zeros, number_in, three_words, three_in, said_or, number_or, three_or, pose_of, words}
-use Rattle.rb_urdf.specs.Names.{given_name, new_name, name_of, name_after}
+use Rattle.rb_tags.specs.Elements.{Element, child, child_in, attribute_in, given}
+use Rattle.rb_urdf.specs.Numbers.{zero_interval, zeros, number_in, three_in, said_or, number_or, three_or, pose_of, as_bad_number}
+use Rattle.rb_urdf.specs.Names.{new_name, name_of, name_after}
 use Rattle.rb_urdf.specs.Links.{six_of, inertial_of, link_of, names_of_links}
 use Rattle.rb_urdf.specs.Profile.{SaysNumber, SaysThree, SaysSix, HasName, IsLink}
 use Rattle.rb_urdf.specs.Refusals.{SaysNone, LacksName, HasNameAgain, HasBadPose, LinkHasBadNumber, HasNegativeMass}
-use Rattle.rb_urdf.proofs.Results.{then-err, or_fault-err, unless-err, not-both}
 use Rattle.rb_urdf.proofs.NumberLaws.{number_or-says, number_or-read, three_or-read}
 use Rattle.rb_urdf.proofs.NameLaws.{name-says, name-read}
 use Rattle.rb_urdf.proofs.LinkLaws.{six-read}
 use Rattle.rb_urdf.proofs.Zips.{beside_left, slice_get-of_map}
+use Rattle.rb_result.proofs.Results.{then-err, found-err, unless-err, not-both, told-err}
+use Rattle.rb_text.specs.Three.{three_of}
 
 -- numbers: the one fault is BadNumber
 
-or_bad-kind : (r : Result Interval TextFault) (k : UrdfFaultKind) → or_bad r ≡ Err k → BadNumber ≡ k
-or_bad-kind (Ok v) k h = absurd cc
-or_bad-kind (Err e) k h = let same : BadNumber ≡ k = cc in same
-
 number_in-kind : (text : List ℕ) (k : UrdfFaultKind) → number_in text ≡ Err k → BadNumber ≡ k
 unfolding number_in
-number_in-kind text k h = or_bad-kind (bracket_of text) k h
+number_in-kind text k h = (told-err as_bad_number (bracket_of text) k h).2
 
-bad : (k : UrdfFaultKind) → (let e : Result (List Interval) UrdfFaultKind = Err BadNumber in e) ≡ Err k → BadNumber ≡ k
-bad k h = cc
-
-three_words-kind : (ws : List (List ℕ)) (k : UrdfFaultKind) → three_words ws ≡ Err k → BadNumber ≡ k
-three_words-kind [] k h = bad k h
-three_words-kind (a ∷ []) k h = bad k h
-three_words-kind (a ∷ b ∷ []) k h = bad k h
-three_words-kind (a ∷ b ∷ c ∷ d ∷ ws) k h = bad k h
-three_words-kind (a ∷ b ∷ c ∷ []) k h =
-    elim (then-err (number_in a) _ k h) [
-      | inl e ↦ number_in-kind a k e
-      | inr p ↦ elim (then-err (number_in b) _ k p.2) [
-        | inl e ↦ number_in-kind b k e
-        | inr q ↦ elim (then-err (number_in c) _ k q.2) [
-          | inl e ↦ number_in-kind c k e
-          | inr r ↦ let clash : (let o : Result (List Interval) UrdfFaultKind = Ok (p.0 ∷ q.0 ∷ r.0 ∷ []) in o) ≡ Err k = r.2 in absurd cc
-        ]
-      ]
-    ]
+three_in-kind : (text : List ℕ) (k : UrdfFaultKind) → three_in text ≡ Err k → BadNumber ≡ k
+unfolding three_in
+three_in-kind text k h = (told-err as_bad_number (three_of text) k h).2
 
 said-kind : {A : Type 0} (default : A) (read : List ℕ → Result A UrdfFaultKind) → ((text : List ℕ) (k : UrdfFaultKind) → read text ≡ Err k → BadNumber ≡ k) → (said : Option (List ℕ)) (k : UrdfFaultKind) → said_or default read said ≡ Err k → BadNumber ≡ k
 said-kind default read each None k h = absurd cc
@@ -65,9 +44,9 @@ number-refused default key element k h = (
 )
 
 pub three-refused : (default : List Interval) (key : List ℕ) (element : Option Element) (k : UrdfFaultKind) → three_or default key element ≡ Err k → (BadNumber ≡ k) × SaysNone (SaysThree default key element)
-unfolding three_or three_in
+unfolding three_or
 three-refused default key element k h = (
-  said-kind default three_in (λ text k h. three_words-kind (words text) k h) (attribute_in key element) k h,
+  said-kind default three_in three_in-kind (attribute_in key element) k h,
   λ v s. not-both (three_or default key element) v k (three_or-read default key element v s) h,
 )
 
@@ -111,21 +90,9 @@ six-refused inertia k h = (six-kind inertia k h, λ six s. not-both (six_of iner
 
 -- names
 
-given-kind : (name : List ℕ) (k : UrdfFaultKind) → given_name name ≡ Err k → NoName ≡ k
-unfolding given_name
-given-kind name k h =
-    elim (unless-err _ NoName (Ok name) k h) [
-      | inl e ↦ e.1
-      | inr e ↦ let clash : (let o : Result (List ℕ) UrdfFaultKind = Ok name in o) ≡ Err k = e.1 in absurd cc
-    ]
-
 name-kind : (element : Element) (k : UrdfFaultKind) → name_of element ≡ Err k → NoName ≡ k
 unfolding name_of
-name-kind element k h =
-    elim (then-err (or_fault NoName (attribute (codes "name") element)) given_name k h) [
-      | inl e ↦ (or_fault-err NoName _ k e).0
-      | inr p ↦ given-kind p.0 k p.2
-    ]
+name-kind element k h = (found-err (given (codes "name") element) NoName k h).0
 
 pub name-refused : (element : Element) (k : UrdfFaultKind) → name_of element ≡ Err k → (NoName ≡ k) × LacksName element
 name-refused element k h = (name-kind element k h, λ name s. not-both (name_of element) name k (name-read element name s) h)

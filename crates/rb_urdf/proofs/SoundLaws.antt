@@ -16,21 +16,23 @@ use Rattle.rb_urdf.specs.declared.robot.UrdfJoint.{UrdfJoint}
 use Rattle.rb_urdf.specs.declared.faults.UrdfFault.{UrdfFault}
 use Rattle.rb_urdf.specs.declared.faults.UrdfFaultKind.TheVariants.{NoRobot}
 use Rattle.rb_urdf.specs.declared.joint.Draft.{Draft}
-use Rattle.rb_urdf.specs.Faults.{placed, fault_at}
+use Rattle.rb_urdf.specs.Faults.{fault_at}
 use Rattle.rb_urdf.specs.Robot.{Robot, plane_axis, IsLinkKept, IsJointKept, IsRobot}
-use Rattle.rb_urdf.specs.Elements.{Element, element_of, is_child, elements, child}
+use Rattle.rb_tags.specs.Elements.{Element, element_of, is_child, elements, child}
 use Rattle.rb_urdf.specs.Names.{name_of}
 use Rattle.rb_urdf.specs.Links.{links_after, names_of_links}
 use Rattle.rb_urdf.specs.Joints.{drafts_after, names_of_drafts}
 use Rattle.rb_urdf.specs.Mimics.{head_of, joint_of, joints_of}
 use Rattle.rb_urdf.specs.Urdf.{is_xacro, plain_but, plain_tags, robot_with, robot_of, urdf_of}
 use Rattle.rb_urdf.specs.Profile.{IsLink, IsJoint, NamesLink, SaysAxis, kind_of_type, link_names, joint_names, AreDifferent, IsXacro, IsUrdf}
-use Rattle.rb_urdf.proofs.Results.{then-ok, placed-ok}
 use Rattle.rb_urdf.proofs.NameLaws.{name-says, differ-none}
 use Rattle.rb_urdf.proofs.LinkLaws.{links-say}
 use Rattle.rb_urdf.proofs.DraftLaws.{IsDraft, drafts-say}
 use Rattle.rb_urdf.proofs.MimicLaws.{IsSettled, joints-say, joint-says, names-kept}
 use Rattle.rb_urdf.proofs.Zips.{each-right, each-map, chained}
+use Rattle.rb_result.proofs.Results.{then-ok, placed-ok}
+use Rattle.rb_result.specs.Steps.{placed}
+use Rattle.rb_tags.specs.declared.tag.TheConstants.{MAX_TAGS}
 
 -- the links and the joints that were read
 pub record PartsRead (tags : List Tag) (links : List UrdfLink) (joints : List UrdfJoint) : Type 0 where
@@ -89,7 +91,7 @@ joint-kept links joints element joint h = record {
   follows = h.follows;
 }
 
-pub robot-kept : (tags : List Tag) (links : List UrdfLink) (joints : List UrdfJoint) → length tags ≤ 262144 → PartsRead tags links joints → IsRobot links joints
+pub robot-kept : (tags : List Tag) (links : List UrdfLink) (joints : List UrdfJoint) → length tags ≤ MAX_TAGS → PartsRead tags links joints → IsRobot links joints
 robot-kept tags links joints few p =
     let ls = elements (codes "link") 1 tags in
     let js = elements (codes "joint") 1 tags in
@@ -134,7 +136,7 @@ sound (root ∷ tags) robot h = by (bytes_eq root.name (codes "robot")) refl h
     by false e h = absurd cc
     by true e h =
         let a = then-ok (plain_tags (root ∷ tags)) _ robot h in
-        let b = then-ok (placed root.place (name_of (element_of root tags))) _ robot a.2 in
+        let b = then-ok (placed fault_at root.place (name_of (element_of root tags))) _ robot a.2 in
         let c = then-ok (links_after [] (elements (codes "link") 1 tags)) _ robot b.2 in
         let d = then-ok (drafts_after (names_of_links c.0) [] (elements (codes "joint") 1 tags)) _ robot c.2 in
         let j = then-ok (joints_of d.0) _ robot d.2 in
@@ -146,7 +148,7 @@ sound (root ∷ tags) robot h = by (bytes_eq root.name (codes "robot")) refl h
           tags_are = refl;
           root_name = (bytes_eq-Decides root.name (codes "robot")).0 e;
           plain = none-found (root ∷ tags) (plain-none (find is_xacro (root ∷ tags)) (root ∷ tags) a.0 a.1);
-          name = name-says (element_of root tags) b.0 (placed-ok root.place (name_of (element_of root tags)) b.0 b.1);
+          name = name-says (element_of root tags) b.0 (placed-ok fault_at root.place (name_of (element_of root tags)) b.0 b.1);
           place = refl;
           links = p.links_are;
           link_names_differ = p.links_differ;

@@ -12,11 +12,14 @@ use Rattle.rb_urdf.specs.declared.numbers.Pose.{Pose}
 use Rattle.rb_urdf.specs.declared.joint.Ends.{Ends}
 use Rattle.rb_urdf.specs.declared.joint.Follow.{Follow}
 use Rattle.rb_urdf.specs.declared.joint.Draft.{Draft}
-use Rattle.rb_urdf.specs.Faults.{◌>>=◌, or_fault, placed}
 use Rattle.rb_urdf.specs.Robot.{plane_axis}
-use Rattle.rb_urdf.specs.Elements.{Element, child, attribute, attribute_in}
+use Rattle.rb_tags.specs.Elements.{Element, child, attribute, attribute_in}
 use Rattle.rb_urdf.specs.Numbers.{zero_interval, one_interval, zeros, first_axis, number_or, three_or, pose_of}
-use Rattle.rb_urdf.specs.Names.{name_after, number_of_name}
+use Rattle.rb_urdf.specs.Names.{name_after}
+use Rattle.rb_tags.specs.Names.{number_of_name}
+use Rattle.rb_result.specs.Steps.{◌>>=◌, placed}
+use Rattle.std.specs.Option.{ok_or}
+use Rattle.rb_urdf.specs.Faults.{fault_at}
 
 -- the kind of a type's name
 unfoldable pub kind_named : List ℕ → Option UrdfKind
@@ -29,7 +32,7 @@ kind_named text =
     if bytes_eq text (codes "planar") then Some Planar else None
 
 unfoldable pub kind_of : Element → Result UrdfKind UrdfFaultKind
-kind_of element = or_fault BadType (option_and_then kind_named (attribute (codes "type") element))
+kind_of element = ok_or (option_and_then kind_named (attribute (codes "type") element)) BadType
 
 -- the name of the link that the element `parent` or `child` has
 abbrev pub end_of : List ℕ → Element → Option (List ℕ)
@@ -38,10 +41,10 @@ end_of name element = attribute_in (codes "link") (child name element)
 -- the numbers of the parent and the child among links of these names
 unfoldable pub ends_of : List (List ℕ) → Element → Result Ends UrdfFaultKind
 ends_of links element =
-    or_fault NoParent (end_of (codes "parent") element) >>= λ parent.
-    or_fault NoChild (end_of (codes "child") element) >>= λ child.
-    or_fault UnknownLink (number_of_name links parent) >>= λ p.
-    or_fault UnknownLink (number_of_name links child) >>= λ c.
+    ok_or (end_of (codes "parent") element) NoParent >>= λ parent.
+    ok_or (end_of (codes "child") element) NoChild >>= λ child.
+    ok_or (number_of_name links parent) UnknownLink >>= λ p.
+    ok_or (number_of_name links child) UnknownLink >>= λ c.
     Ok (record { parent = p; child = c })
 
 -- the axis of a joint of a kind, which a fixed or floating joint has none of
@@ -101,4 +104,4 @@ names_of_drafts drafts = map (λ draft. draft.joint.name) drafts
 unfoldable pub drafts_after : List (List ℕ) → List Draft → List Element → Result (List Draft) UrdfFault
 drafts_after links drafts [] = Ok drafts
 drafts_after links drafts (element ∷ elements) =
-    placed element.tag.place (draft_of links (names_of_drafts drafts) element) >>= λ draft. drafts_after links (drafts ++ draft ∷ []) elements
+    placed fault_at element.tag.place (draft_of links (names_of_drafts drafts) element) >>= λ draft. drafts_after links (drafts ++ draft ∷ []) elements

@@ -6,10 +6,11 @@ use Rattle.rb_urdf.specs.declared.faults.UrdfFault.{UrdfFault}
 use Rattle.rb_urdf.specs.declared.faults.UrdfFaultKind.{UrdfFaultKind}
 use Rattle.rb_urdf.specs.declared.faults.UrdfFaultKind.TheVariants.{NegativeMass}
 use Rattle.rb_urdf.specs.declared.link.Inertial.{Inertial}
-use Rattle.rb_urdf.specs.Faults.{◌>>=◌, placed}
-use Rattle.rb_urdf.specs.Elements.{Element, child, child_in}
+use Rattle.rb_tags.specs.Elements.{Element, child, child_in}
 use Rattle.rb_urdf.specs.Numbers.{zero_interval, number_or, pose_of}
 use Rattle.rb_urdf.specs.Names.{name_after}
+use Rattle.rb_result.specs.Steps.{◌>>=◌, placed}
+use Rattle.rb_urdf.specs.Faults.{fault_at}
 
 -- ixx ixy ixz iyy iyz izz
 unfoldable pub six_of : Option Element → Result (List Interval) UrdfFaultKind
@@ -48,4 +49,4 @@ names_of_links links = map (λ link. link.name) links
 unfoldable pub links_after : List UrdfLink → List Element → Result (List UrdfLink) UrdfFault
 links_after links [] = Ok links
 links_after links (element ∷ elements) =
-    placed element.tag.place (link_of (names_of_links links) element) >>= λ link. links_after (links ++ link ∷ []) elements
+    placed fault_at element.tag.place (link_of (names_of_links links) element) >>= λ link. links_after (links ++ link ∷ []) elements

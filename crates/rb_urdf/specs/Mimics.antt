@@ -10,9 +10,11 @@ use Rattle.rb_urdf.specs.declared.faults.UrdfFaultKind.TheVariants.{MimicUnknown
 use Rattle.rb_urdf.specs.declared.joint.Follow.{Follow}
 use Rattle.rb_urdf.specs.declared.joint.Draft.{Draft}
 use Rattle.rb_urdf.specs.declared.mimic.Head.{Head}
-use Rattle.rb_urdf.specs.Faults.{◌>>=◌, or_fault, placed}
-use Rattle.rb_urdf.specs.Names.{number_of_name}
 use Rattle.rb_urdf.specs.Joints.{names_of_drafts}
+use Rattle.rb_tags.specs.Names.{number_of_name}
+use Rattle.rb_result.specs.Steps.{◌>>=◌, placed}
+use Rattle.std.specs.Option.{ok_or}
+use Rattle.rb_urdf.specs.Faults.{fault_at}
 
 -- a joint of this kind may be followed
 abbrev pub may_lead : UrdfKind → Bool
@@ -32,8 +34,8 @@ head_of draft = record { kind = draft.joint.kind; follows = is_some draft.follow
 -- the mimic of a joint of a kind among joints of these names
 unfoldable pub mimic_of : List (List ℕ) → List Head → UrdfKind → Follow → Result UrdfMimic UrdfFaultKind
 mimic_of names heads kind follow =
-    or_fault MimicUnknown (option_and_then (number_of_name names) follow.master) >>= λ master.
-    or_fault MimicUnknown (slice_get heads master) >>= λ head.
+    ok_or (option_and_then (number_of_name names) follow.master) MimicUnknown >>= λ master.
+    ok_or (slice_get heads master) MimicUnknown >>= λ head.
     if head.follows then Err MimicChain else
     if not (may_lead head.kind) || not (may_lead (following_kind kind)) then Err MimicMaster else
     Ok (record { master = master; multiplier = follow.multiplier; offset = follow.offset })
@@ -51,7 +53,7 @@ joint_of names heads draft = joint_with names heads draft.joint draft.follow
 unfoldable pub joints_after : List (List ℕ) → List Head → List UrdfJoint → List Draft → Result (List UrdfJoint) UrdfFault
 joints_after names heads joints [] = Ok joints
 joints_after names heads joints (draft ∷ drafts) =
-    placed draft.joint.place (joint_of names heads draft) >>= λ joint. joints_after names heads (joints ++ joint ∷ []) drafts
+    placed fault_at draft.joint.place (joint_of names heads draft) >>= λ joint. joints_after names heads (joints ++ joint ∷ []) drafts
 
 -- the joints of all drafts
 unfoldable pub joints_of : List Draft → Result (List UrdfJoint) UrdfFault

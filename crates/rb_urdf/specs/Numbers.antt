@@ -1,15 +1,14 @@
 -- The numbers of attributes.
-use Rattle.std.specs.Prelude.{ℕ, not, ◌==◌, List, [], ◌∷◌, length, filter, codes, pos, Option, Some, None, Result, Ok, Err}
-use Rattle.std.specs.List.{slice_split}
+use Rattle.std.specs.Prelude.{ℕ, List, [], ◌∷◌, codes, pos, Option, Some, None, Result, Ok}
 use Rattle.rb_num.specs.Interval.{Interval, interval, grid}
-use Rattle.rb_tags.specs.Bytes.{is_space}
 use Rattle.rb_text.specs.Bracket.{bracket_of}
 use Rattle.rb_text.specs.declared.bracket.TextFault.{TextFault}
 use Rattle.rb_urdf.specs.declared.faults.UrdfFaultKind.{UrdfFaultKind}
 use Rattle.rb_urdf.specs.declared.faults.UrdfFaultKind.TheVariants.{BadNumber}
 use Rattle.rb_urdf.specs.declared.numbers.Pose.{Pose}
-use Rattle.rb_urdf.specs.Faults.{◌>>=◌}
-use Rattle.rb_urdf.specs.Elements.{Element, attribute_in}
+use Rattle.rb_tags.specs.Elements.{Element, attribute_in}
+use Rattle.rb_result.specs.Steps.{◌>>=◌, told_as}
+use Rattle.rb_text.specs.Three.{three_of}
 
 abbrev pub zero_interval : Interval
 zero_interval = interval (pos 0) (pos 0)
@@ -25,25 +24,17 @@ zeros = zero_interval ∷ zero_interval ∷ zero_interval ∷ []
 abbrev pub first_axis : List Interval
 first_axis = one_interval ∷ zero_interval ∷ zero_interval ∷ []
 
--- the words of a text: its parts between white space
-unfoldable pub words : List ℕ → List (List ℕ)
-words text = filter (λ word. not (length word == 0)) (slice_split is_space text)
-
-abbrev pub or_bad : Result Interval TextFault → Result Interval UrdfFaultKind
-or_bad (Ok v) = Ok v
-or_bad (Err _) = Err BadNumber
+-- why a text has no bracket is not told
+abbrev pub as_bad_number : TextFault → UrdfFaultKind
+as_bad_number fault = BadNumber
 
 -- the bracket of a text
 unfoldable pub number_in : List ℕ → Result Interval UrdfFaultKind
-number_in text = or_bad (bracket_of text)
-
-abbrev pub three_words : List (List ℕ) → Result (List Interval) UrdfFaultKind
-three_words (a ∷ b ∷ c ∷ []) = number_in a >>= λ x. number_in b >>= λ y. number_in c >>= λ z. Ok (x ∷ y ∷ z ∷ [])
-three_words _ = Err BadNumber
+number_in text = told_as as_bad_number (bracket_of text)
 
 -- the brackets of a text of three words
 unfoldable pub three_in : List ℕ → Result (List Interval) UrdfFaultKind
-three_in text = three_words (words text)
+three_in text = told_as as_bad_number (three_of text)
 
 -- what a text says, or the default where there is none
 abbrev pub said_or : {A : Type 0} → A → (List ℕ → Result A UrdfFaultKind) → Option (List ℕ) → Result A UrdfFaultKind

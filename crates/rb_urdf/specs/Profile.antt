@@ -10,8 +10,9 @@ use Rattle.rb_urdf.specs.declared.robot.UrdfLink.{UrdfLink}
 use Rattle.rb_urdf.specs.declared.robot.UrdfMimic.{UrdfMimic}
 use Rattle.rb_urdf.specs.declared.robot.UrdfJoint.{UrdfJoint}
 use Rattle.rb_urdf.specs.Robot.{Robot, plane_axis, FollowsWell}
-use Rattle.rb_urdf.specs.Elements.{Element, element_of, elements, child, child_in, attribute, attribute_in}
-use Rattle.rb_urdf.specs.Numbers.{zero_interval, one_interval, zeros, first_axis, words}
+use Rattle.rb_tags.specs.Elements.{Element, element_of, elements, child, child_in, attribute, attribute_in}
+use Rattle.rb_urdf.specs.Numbers.{zero_interval, one_interval, zeros, first_axis}
+use Rattle.rb_text.specs.Three.{IsThree}
 
 -- the value that a text says, or the default where there is none
 abbrev pub SaidOr : {A : Type 0} → A → (List ℕ → A → Type 0) → Option (List ℕ) → A → Type 0
@@ -20,20 +21,6 @@ SaidOr default Says (Some text) v = Says text v
 
 abbrev pub IsNumber : List ℕ → Interval → Type 0
 IsNumber text v = bracket_of text ≡ Ok v
-
--- the text is three words, and these are their brackets
-pub record IsThree (text : List ℕ) (v : List Interval) : Type 0 where
-  pub first : List ℕ
-  pub second : List ℕ
-  pub third : List ℕ
-  pub x : Interval
-  pub y : Interval
-  pub z : Interval
-  pub words_are : words text ≡ first ∷ second ∷ third ∷ []
-  pub x_is : IsNumber first x
-  pub y_is : IsNumber second y
-  pub z_is : IsNumber third z
-  pub are : v ≡ x ∷ y ∷ z ∷ []
 
 -- the number of an attribute of an element, where either may be missing
 abbrev pub SaysNumber : Interval → List ℕ → Option Element → Interval → Type 0

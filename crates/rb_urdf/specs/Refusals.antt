@@ -9,7 +9,7 @@ use Rattle.rb_urdf.specs.declared.faults.UrdfFault.{UrdfFault}
 use Rattle.rb_urdf.specs.declared.faults.UrdfFaultKind.{UrdfFaultKind}
 use Rattle.rb_urdf.specs.declared.faults.UrdfFaultKind.TheVariants as kind
 use Rattle.rb_urdf.specs.Robot.{plane_axis}
-use Rattle.rb_urdf.specs.Elements.{Element, element_of, elements, child, child_in, attribute, attribute_in}
+use Rattle.rb_tags.specs.Elements.{Element, element_of, elements, child, child_in, attribute, attribute_in}
 use Rattle.rb_urdf.specs.Numbers.{zero_interval, one_interval, zeros, first_axis}
 use Rattle.rb_urdf.specs.Profile.{SaysNumber, SaysThree, SaysSix, HasName, type_name, IsXacro}
 

@@ -7,6 +7,7 @@ use Rattle.rb_urdf.specs.declared.robot.UrdfKind.TheVariants.{Revolute, Prismati
 use Rattle.rb_urdf.specs.declared.robot.UrdfLink.{UrdfLink}
 use Rattle.rb_urdf.specs.declared.robot.UrdfMimic.{UrdfMimic}
 use Rattle.rb_urdf.specs.declared.robot.UrdfJoint.{UrdfJoint}
+use Rattle.rb_tags.specs.declared.tag.TheConstants.{MAX_TAGS}
 
 -- its name, the place of its element, its links and its joints in file order
 pub record Robot : Type 0 where
@@ -52,8 +53,8 @@ pub record IsJointKept (links : List UrdfLink) (joints : List UrdfJoint) (joint 
 
 -- what each robot keeps
 pub record IsRobot (links : List UrdfLink) (joints : List UrdfJoint) : Type 0 where
-  pub few_links : length links ≤ 262144
-  pub few_joints : length joints ≤ 262144
+  pub few_links : length links ≤ MAX_TAGS
+  pub few_joints : length joints ≤ MAX_TAGS
   pub link_names : AreNames (map (λ link. link.name) links)
   pub joint_names : AreNames (map (λ joint. joint.name) joints)
   pub masses : AllByRecursion IsLinkKept links

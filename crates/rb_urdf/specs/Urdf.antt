@@ -5,13 +5,14 @@ use Rattle.rb_tags.specs.declared.tag.Tag.{Tag}
 use Rattle.rb_urdf.specs.declared.faults.UrdfFault.{UrdfFault}
 use Rattle.rb_urdf.specs.declared.faults.UrdfFaultKind.TheVariants.{NoRobot, Xacro}
 use Rattle.rb_urdf.specs.Robot.{Robot}
-use Rattle.rb_urdf.specs.Faults.{◌>>=◌, fault_at, placed}
-use Rattle.rb_urdf.specs.Elements.{element_of, elements}
+use Rattle.rb_urdf.specs.Faults.{fault_at}
+use Rattle.rb_tags.specs.Elements.{element_of, elements}
 use Rattle.rb_urdf.specs.Names.{name_of}
 use Rattle.rb_urdf.specs.Links.{links_after, names_of_links}
 use Rattle.rb_urdf.specs.Joints.{drafts_after}
 use Rattle.rb_urdf.specs.Mimics.{joints_of}
 pub use Rattle.rb_urdf.specs.Faults.{no_memory}
+use Rattle.rb_result.specs.Steps.{◌>>=◌, placed}
 
 unfoldable pub is_xacro : Tag → Bool
 is_xacro tag = starts_with nat_eq tag.name (codes "xacro:")
@@ -36,7 +37,7 @@ robot_with name place tags =
 unfoldable pub robot_of : Tag → List Tag → Result Robot UrdfFault
 robot_of root tags =
     plain_tags (root ∷ tags) >>= λ _.
-    placed root.place (name_of (element_of root tags)) >>= λ name.
+    placed fault_at root.place (name_of (element_of root tags)) >>= λ name.
     robot_with name root.place tags
 
 -- the outermost element is the first, and its name is robot

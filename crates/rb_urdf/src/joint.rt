@@ -1,18 +1,17 @@
 // The joints of a robot, whose mimics still name the joint that they follow.
 ghost use Rattle.std.specs.Prelude.{◌≡◌, ◌≤◌, ◌^◌, ◌++◌, ◌∷◌, [], codes, length, IfOk, Ok, option_map, option_copied};
-ghost use Rattle.rb_urdf.specs.Faults.{Gives, GivesKind};
-ghost use Rattle.rb_urdf.specs.Elements.{elements};
+ghost use Rattle.rb_tags.specs.Elements.{elements, as_element};
 ghost use Rattle.rb_urdf.specs.Joints.{kind_named, kind_of, end_of, ends_of, axis_of, follow_in, follow_of, is_exactly, is_plane_axis, is_planar, draft_of, drafts_after, names_of_drafts};
-ghost use Rattle.rb_urdf.specs.Views.{seen, texts};
+ghost use Rattle.rb_result.specs.Steps.{Gives};
+ghost use Rattle.rb_urdf.specs.declared.faults.UrdfFaultKind.TheVariants.{Memory};
+ghost use Rattle.rb_urdf.specs.Faults.{no_memory};
 
-use crate::element::{Element, attribute_in, is_child};
 use crate::faults::{UrdfFault, UrdfFaultKind, fault};
-use crate::names::{number_of, take_name};
+use crate::names::take_name;
 use crate::numbers::{ZEROS, number_or, pose_of, three_or};
 use crate::robot::{UrdfJoint, UrdfKind};
-use indexmap::IndexSet;
 use rb_num::{Iv, S};
-use rb_tags::{Tag, Text};
+use rb_tags::{ElementRef, Names, Tag, Text, attribute_in, is_child};
 use std::alloc::Global;
 
 /// The axis of a joint that names none, but for a planar one.
@@ -67,8 +66,8 @@ fn kind_named(text: &str) -> Option<UrdfKind>
 
 /// The kind of a joint.
 #[tactic(auto, unfolding(crate::specs::Joints::kind_of))]
-fn kind_of(element: Element<'_>) -> Result<UrdfKind, UrdfFaultKind>
-    ensures { result ≡ kind_of (seen element.entry) }
+fn kind_of(element: ElementRef<'_>) -> Result<UrdfKind, UrdfFaultKind>
+    ensures { result ≡ kind_of (as_element element.entry) }
 {
     let Some(text) = element.attribute("type") else {
         return Err(UrdfFaultKind::BadType);
@@ -80,17 +79,17 @@ fn kind_of(element: Element<'_>) -> Result<UrdfKind, UrdfFaultKind>
 }
 
 /// The name of the link that the element `parent` or `child` has.
-fn end_of<'a>(name: &str, element: Element<'a>) -> Option<&'a str>
-    ensures { option_copied result ≡ end_of name.now (seen element.entry) }
+fn end_of<'a>(name: &str, element: ElementRef<'a>) -> Option<&'a str>
+    ensures { option_copied result ≡ end_of name.now (as_element element.entry) }
 {
     attribute_in("link", element.child(name))
 }
 
 /// The numbers of the parent and the child.
 #[tactic(auto, unfolding(crate::specs::Joints::ends_of))]
-fn ends_of(links: &IndexSet<&str>, element: Element<'_>) -> Result<Ends, UrdfFaultKind>
-    requires { length (texts links.now) ≤ 2 ^ 32 }
-    ensures { result ≡ ends_of (texts links.now) (seen element.entry) }
+fn ends_of(links: &Names<'_>, element: ElementRef<'_>) -> Result<Ends, UrdfFaultKind>
+    requires { length links.now ≤ 2 ^ 32 }
+    ensures { result ≡ ends_of links.now (as_element element.entry) }
 {
     let Some(parent) = end_of("parent", element) else {
         return Err(UrdfFaultKind::NoParent);
@@ -98,10 +97,10 @@ fn ends_of(links: &IndexSet<&str>, element: Element<'_>) -> Result<Ends, UrdfFau
     let Some(child) = end_of("child", element) else {
         return Err(UrdfFaultKind::NoChild);
     };
-    let Some(parent) = number_of(links, parent) else {
+    let Some(parent) = links.number_of(parent) else {
         return Err(UrdfFaultKind::UnknownLink);
     };
-    let Some(child) = number_of(links, child) else {
+    let Some(child) = links.number_of(child) else {
         return Err(UrdfFaultKind::UnknownLink);
     };
     Ok(Ends { parent, child })
@@ -109,8 +108,8 @@ fn ends_of(links: &IndexSet<&str>, element: Element<'_>) -> Result<Ends, UrdfFau
 
 /// The axis of a joint of a kind, which a fixed or floating joint has none of.
 #[tactic(auto, unfolding(crate::specs::Joints::axis_of))]
-fn axis_of(kind: UrdfKind, element: Element<'_>) -> Result<[Iv; 3], UrdfFaultKind>
-    ensures { result ≡ axis_of kind (seen element.entry) }
+fn axis_of(kind: UrdfKind, element: ElementRef<'_>) -> Result<[Iv; 3], UrdfFaultKind>
+    ensures { result ≡ axis_of kind (as_element element.entry) }
 {
     match kind {
         UrdfKind::Fixed | UrdfKind::Floating => Ok(ZEROS),
@@ -123,7 +122,7 @@ fn axis_of(kind: UrdfKind, element: Element<'_>) -> Result<[Iv; 3], UrdfFaultKin
 
 /// A copy of a text that may be missing.
 fn copy_of(alloc: Global, text: Option<&str>) -> Result<Option<Text>, UrdfFaultKind>
-    ensures { GivesKind (λ copy. copy) result (Ok (option_copied text.entry)) }
+    ensures { Gives Memory (λ copy. copy) result (Ok (option_copied text.entry)) }
 {
     match text {
         Some(text) => Ok(Some(Text::copy(alloc, text)?)),
@@ -133,8 +132,8 @@ fn copy_of(alloc: Global, text: Option<&str>) -> Result<Option<Text>, UrdfFaultK
 
 /// What the element `mimic` says.
 #[tactic(auto, unfolding(crate::specs::Joints::follow_in))]
-fn follow_in(alloc: Global, mimic: Element<'_>) -> Result<Follow, UrdfFaultKind>
-    ensures { GivesKind (λ follow. follow) result (follow_in (seen mimic.entry)) }
+fn follow_in(alloc: Global, mimic: ElementRef<'_>) -> Result<Follow, UrdfFaultKind>
+    ensures { Gives Memory (λ follow. follow) result (follow_in (as_element mimic.entry)) }
 {
     let multiplier = number_or(Iv::ONE, "multiplier", Some(mimic))?;
     let offset = number_or(Iv::ZERO, "offset", Some(mimic))?;
@@ -147,8 +146,8 @@ fn follow_in(alloc: Global, mimic: Element<'_>) -> Result<Follow, UrdfFaultKind>
 
 /// What the element `mimic` says, where there is one.
 #[tactic(auto, unfolding(crate::specs::Joints::follow_of))]
-fn follow_of(alloc: Global, mimic: Option<Element<'_>>) -> Result<Option<Follow>, UrdfFaultKind>
-    ensures { GivesKind (λ follow. follow) result (follow_of (option_map seen mimic.entry)) }
+fn follow_of(alloc: Global, mimic: Option<ElementRef<'_>>) -> Result<Option<Follow>, UrdfFaultKind>
+    ensures { Gives Memory (λ follow. follow) result (follow_of (option_map as_element mimic.entry)) }
 {
     match mimic {
         Some(mimic) => Ok(Some(follow_in(alloc, mimic)?)),
@@ -176,13 +175,13 @@ fn is_plane_axis(axis: [Iv; 3]) -> bool
 #[tactic(auto, unfolding(crate::specs::Joints::draft_of))]
 fn draft_of<'a>(
     alloc: Global,
-    links: &IndexSet<&str>,
-    names: &mut IndexSet<&'a str>,
-    element: Element<'a>,
+    links: &Names<'_>,
+    names: &mut Names<'a>,
+    element: ElementRef<'a>,
 ) -> Result<Draft, UrdfFaultKind>
-    requires { length (texts links.now) ≤ 2 ^ 32 }
-    ensures gives { GivesKind (λ draft. draft) result (draft_of (texts links.now) (texts names.old) (seen element.entry)) }
-    ensures names { IfOk result (λ draft. texts names.new ≡ texts names.old ++ draft.joint.name ∷ []) }
+    requires { length links.now ≤ 2 ^ 32 }
+    ensures gives { Gives Memory (λ draft. draft) result (draft_of links.now names.old (as_element element.entry)) }
+    ensures names { IfOk result (λ draft. names.new ≡ names.old ++ draft.joint.name ∷ []) }
 {
     let name = take_name(names, element)?;
     let kind = kind_of(element)?;
@@ -210,21 +209,21 @@ fn draft_of<'a>(
 /// The joints among the tags behind the outermost one. Their names are put into an empty set.
 pub fn read_drafts<'a>(
     alloc: Global,
-    links: &IndexSet<&str>,
-    names: &mut IndexSet<&'a str>,
+    links: &Names<'_>,
+    names: &mut Names<'a>,
     tags: &'a [Tag],
 ) -> Result<Vec<Draft>, UrdfFault>
-    requires links { length (texts links.now) ≤ 2 ^ 32 }
-    requires none { texts names.old ≡ [] }
-    ensures gives { Gives (λ drafts. drafts.items) result (drafts_after (texts links.now) [] (elements (codes "joint") 1 tags.now)) }
-    ensures names { IfOk result (λ drafts. texts names.new ≡ names_of_drafts drafts.items) }
+    requires links { length links.now ≤ 2 ^ 32 }
+    requires none { names.old ≡ [] }
+    ensures gives { Gives no_memory (λ drafts. drafts.items) result (drafts_after links.now [] (elements (codes "joint") 1 tags.now)) }
+    ensures names { IfOk result (λ drafts. names.new ≡ names_of_drafts drafts.items) }
     ensures few { IfOk result (λ drafts. length drafts.items ≤ length tags.now) }
 {
     let mut drafts = Vec::new(alloc);
     let mut rest = tags;
     while let [tag, behind @ ..] = rest {
         if is_child("joint", 1, tag) {
-            match draft_of(alloc, links, names, Element::new(tag, behind)) {
+            match draft_of(alloc, links, names, ElementRef::new(tag, behind)) {
                 Ok(draft) => drafts.push(draft)?,
                 Err(kind) => return Err(fault(kind, tag.place)),
             }

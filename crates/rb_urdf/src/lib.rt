@@ -1,7 +1,6 @@
 //! Robots of the Unified Robot Description Format: links, joints and mimics, from a list of tags.
 #![tactic(auto)]
 
-mod element;
 mod faults;
 mod joint;
 mod laws;

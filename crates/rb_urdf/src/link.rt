@@ -1,18 +1,17 @@
 // The links of a robot.
 ghost use Rattle.std.specs.Prelude.{◌≡◌, ◌≤◌, ◌++◌, ◌∷◌, [], codes, length, IfOk, option_map};
-ghost use Rattle.rb_urdf.specs.Faults.{Gives, GivesKind};
-ghost use Rattle.rb_urdf.specs.Elements.{elements};
+ghost use Rattle.rb_tags.specs.Elements.{elements, as_element};
 ghost use Rattle.rb_urdf.specs.Links.{six_of, inertial_of, link_of, links_after, names_of_links};
-ghost use Rattle.rb_urdf.specs.Views.{seen, texts};
+ghost use Rattle.rb_result.specs.Steps.{Gives};
+ghost use Rattle.rb_urdf.specs.declared.faults.UrdfFaultKind.TheVariants.{Memory};
+ghost use Rattle.rb_urdf.specs.Faults.{no_memory};
 
-use crate::element::{Element, child_in, is_child};
 use crate::faults::{UrdfFault, UrdfFaultKind, fault};
 use crate::names::take_name;
 use crate::numbers::{Pose, number_or, pose_of};
 use crate::robot::UrdfLink;
-use indexmap::IndexSet;
 use rb_num::Iv;
-use rb_tags::{Tag, Text};
+use rb_tags::{ElementRef, Names, Tag, Text, child_in, is_child};
 use std::alloc::Global;
 
 /// What the element `inertial` says: the mass in kilograms, the centre of mass and the axes of the inertia, and ixx, ixy, ixz, iyy, iyz,
@@ -26,8 +25,8 @@ pub struct Inertial {
 
 /// ixx, ixy, ixz, iyy, iyz and izz.
 #[tactic(auto, unfolding(crate::specs::Links::six_of))]
-fn six_of(inertia: Option<Element<'_>>) -> Result<[Iv; 6], UrdfFaultKind>
-    ensures { result ≡ six_of (option_map seen inertia.entry) }
+fn six_of(inertia: Option<ElementRef<'_>>) -> Result<[Iv; 6], UrdfFaultKind>
+    ensures { result ≡ six_of (option_map as_element inertia.entry) }
 {
     let ixx = number_or(Iv::ZERO, "ixx", inertia)?;
     let ixy = number_or(Iv::ZERO, "ixy", inertia)?;
@@ -40,8 +39,8 @@ fn six_of(inertia: Option<Element<'_>>) -> Result<[Iv; 6], UrdfFaultKind>
 
 /// What the element `inertial` says.
 #[tactic(auto, unfolding(crate::specs::Links::inertial_of))]
-fn inertial_of(inertial: Option<Element<'_>>) -> Result<Inertial, UrdfFaultKind>
-    ensures { result ≡ inertial_of (option_map seen inertial.entry) }
+fn inertial_of(inertial: Option<ElementRef<'_>>) -> Result<Inertial, UrdfFaultKind>
+    ensures { result ≡ inertial_of (option_map as_element inertial.entry) }
 {
     let pose = pose_of(child_in("origin", inertial))?;
     let mass = number_or(Iv::ZERO, "value", child_in("mass", inertial))?;
@@ -56,11 +55,11 @@ fn inertial_of(inertial: Option<Element<'_>>) -> Result<Inertial, UrdfFaultKind>
 #[tactic(auto, unfolding(crate::specs::Links::link_of))]
 fn link_of<'a>(
     alloc: Global,
-    names: &mut IndexSet<&'a str>,
-    element: Element<'a>,
+    names: &mut Names<'a>,
+    element: ElementRef<'a>,
 ) -> Result<UrdfLink, UrdfFaultKind>
-    ensures gives { GivesKind (λ link. link) result (link_of (texts names.old) (seen element.entry)) }
-    ensures names { IfOk result (λ link. texts names.new ≡ texts names.old ++ link.name ∷ []) }
+    ensures gives { Gives Memory (λ link. link) result (link_of names.old (as_element element.entry)) }
+    ensures names { IfOk result (λ link. names.new ≡ names.old ++ link.name ∷ []) }
 {
     let name = take_name(names, element)?;
     let inertial = inertial_of(element.child("inertial"))?;
@@ -77,19 +76,19 @@ fn link_of<'a>(
 /// The links among the tags behind the outermost one. Their names are put into an empty set.
 pub fn read_links<'a>(
     alloc: Global,
-    names: &mut IndexSet<&'a str>,
+    names: &mut Names<'a>,
     tags: &'a [Tag],
 ) -> Result<Vec<UrdfLink>, UrdfFault>
-    requires { texts names.old ≡ [] }
-    ensures gives { Gives (λ links. links.items) result (links_after [] (elements (codes "link") 1 tags.now)) }
-    ensures names { IfOk result (λ links. texts names.new ≡ names_of_links links.items) }
+    requires { names.old ≡ [] }
+    ensures gives { Gives no_memory (λ links. links.items) result (links_after [] (elements (codes "link") 1 tags.now)) }
+    ensures names { IfOk result (λ links. names.new ≡ names_of_links links.items) }
     ensures few { IfOk result (λ links. length links.items ≤ length tags.now) }
 {
     let mut links = Vec::new(alloc);
     let mut rest = tags;
     while let [tag, behind @ ..] = rest {
         if is_child("link", 1, tag) {
-            match link_of(alloc, names, Element::new(tag, behind)) {
+            match link_of(alloc, names, ElementRef::new(tag, behind)) {
                 Ok(link) => links.push(link)?,
                 Err(kind) => return Err(fault(kind, tag.place)),
             }

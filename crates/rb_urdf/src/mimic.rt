@@ -1,15 +1,14 @@
 // Joints that follow others.
 ghost use Rattle.std.specs.Prelude.{◌≡◌, ◌≤◌, ◌^◌, [], length, map, IfOk};
-ghost use Rattle.rb_urdf.specs.Faults.{Gives};
 ghost use Rattle.rb_urdf.specs.Joints.{names_of_drafts};
 ghost use Rattle.rb_urdf.specs.Mimics.{may_lead, following_kind, head_of, mimic_of, joint_of, joints_of};
-ghost use Rattle.rb_urdf.specs.Views.{texts};
+ghost use Rattle.rb_result.specs.Steps.{Gives};
+ghost use Rattle.rb_urdf.specs.Faults.{no_memory};
 
 use crate::faults::{UrdfFault, UrdfFaultKind, fault};
 use crate::joint::{Draft, Follow};
-use crate::names::number_of;
 use crate::robot::{UrdfJoint, UrdfKind, UrdfMimic};
-use indexmap::IndexSet;
+use rb_tags::Names;
 use std::alloc::{AllocError, Global};
 
 /// What others ask of a joint that they follow: its kind, and whether it follows one itself.
@@ -52,18 +51,18 @@ fn heads_of(alloc: Global, drafts: &[Draft]) -> Result<Vec<Head>, AllocError>
 /// The mimic of a joint of a kind.
 #[tactic(auto, unfolding(crate::specs::Mimics::mimic_of))]
 fn mimic_of(
-    names: &IndexSet<&str>,
+    names: &Names<'_>,
     heads: &[Head],
     kind: UrdfKind,
     follow: &Follow,
 ) -> Result<UrdfMimic, UrdfFaultKind>
-    requires { length (texts names.now) ≤ 2 ^ 32 }
-    ensures { result ≡ mimic_of (texts names.now) heads.now kind follow.now }
+    requires { length names.now ≤ 2 ^ 32 }
+    ensures { result ≡ mimic_of names.now heads.now kind follow.now }
 {
     let Some(master) = &follow.master else {
         return Err(UrdfFaultKind::MimicUnknown);
     };
-    let Some(master) = number_of(names, master.as_str()) else {
+    let Some(master) = names.number_of(master.as_str()) else {
         return Err(UrdfFaultKind::MimicUnknown);
     };
     let Some(head) = heads.get(master as usize) else {
@@ -84,13 +83,9 @@ fn mimic_of(
 
 /// The joint, whose mimic has the number of the joint that it follows.
 #[tactic(auto, unfolding(crate::specs::Mimics::joint_of))]
-fn joint_of(
-    names: &IndexSet<&str>,
-    heads: &[Head],
-    draft: Draft,
-) -> Result<UrdfJoint, UrdfFaultKind>
-    requires { length (texts names.now) ≤ 2 ^ 32 }
-    ensures { result ≡ joint_of (texts names.now) heads.now draft }
+fn joint_of(names: &Names<'_>, heads: &[Head], draft: Draft) -> Result<UrdfJoint, UrdfFaultKind>
+    requires { length names.now ≤ 2 ^ 32 }
+    ensures { result ≡ joint_of names.now heads.now draft }
 {
     let Draft { mut joint, follow } = draft;
     if let Some(follow) = &follow {
@@ -104,12 +99,12 @@ fn joint_of(
 #[tactic(auto, unfolding(crate::specs::Mimics::joints_of))]
 pub fn joints_of(
     alloc: Global,
-    names: &IndexSet<&str>,
+    names: &Names<'_>,
     drafts: Vec<Draft>,
 ) -> Result<Vec<UrdfJoint>, UrdfFault>
-    requires few { length (texts names.now) ≤ 2 ^ 32 }
-    requires names { texts names.now ≡ names_of_drafts drafts.items }
-    ensures { Gives (λ joints. joints.items) result (joints_of drafts.items) }
+    requires few { length names.now ≤ 2 ^ 32 }
+    requires names { names.now ≡ names_of_drafts drafts.items }
+    ensures { Gives no_memory (λ joints. joints.items) result (joints_of drafts.items) }
 {
     let heads = heads_of(alloc, drafts.as_slice())?;
     let mut joints = Vec::new(alloc);

@@ -1,48 +1,37 @@
 // The names of links and joints.
-ghost use Rattle.std.specs.Prelude.{◌≡◌, ◌++◌, ◌∷◌, ◌^◌, ◌≤◌, [], IfOk, length};
-ghost use Rattle.rb_urdf.specs.Faults.{GivesKind};
-ghost use Rattle.rb_urdf.specs.Names.{name_of, name_after, number_of_name};
-ghost use Rattle.rb_urdf.specs.Views.{seen, texts};
+ghost use Rattle.std.specs.Prelude.{◌≡◌, ◌++◌, ◌∷◌, [], IfOk};
+ghost use Rattle.rb_tags.specs.Elements.{as_element};
+ghost use Rattle.rb_result.specs.Steps.{Gives};
+ghost use Rattle.rb_urdf.specs.declared.faults.UrdfFaultKind.TheVariants.{Memory};
+ghost use Rattle.rb_urdf.specs.Names.{name_of, name_after};
 
-use crate::element::Element;
 use crate::faults::UrdfFaultKind;
-use indexmap::IndexSet;
+use rb_tags::{ElementRef, Names};
 
 /// The name of an element, which is given.
-#[tactic(auto, unfolding(crate::specs::Names::name_of, crate::specs::Names::given_name))]
-pub fn name_of<'a>(element: Element<'a>) -> Result<&'a str, UrdfFaultKind>
-    ensures { GivesKind (λ name. name.now) result (name_of (seen element.entry)) }
+#[tactic(auto, unfolding(crate::specs::Names::name_of))]
+pub fn name_of<'a>(element: ElementRef<'a>) -> Result<&'a str, UrdfFaultKind>
+    ensures { Gives Memory (λ name. name.now) result (name_of (as_element element.entry)) }
 {
-    match element.attribute("name") {
-        Some(name) if !name.is_empty() => Ok(name),
-        _ => Err(UrdfFaultKind::NoName),
+    match element.given("name") {
+        Some(name) => Ok(name),
+        None => Err(UrdfFaultKind::NoName),
     }
 }
 
-/// Puts the name of an element behind those of a set, which do not have it.
-#[tactic(auto, unfolding(crate::specs::Names::name_after))]
+/// Adds the name of an element behind others, which do not have it.
+#[tactic(auto, unfolding(crate::specs::Names::name_after, crate::specs::Names::new_name))]
 pub fn take_name<'a>(
-    names: &mut IndexSet<&'a str>,
-    element: Element<'a>,
+    names: &mut Names<'a>,
+    element: ElementRef<'a>,
 ) -> Result<&'a str, UrdfFaultKind>
-    ensures gives { GivesKind (λ name. name.now) result (name_after (texts names.old) (seen element.entry)) }
-    ensures names { IfOk result (λ name. texts names.new ≡ texts names.old ++ name.now ∷ []) }
+    ensures gives { Gives Memory (λ name. name.now) result (name_after names.old (as_element element.entry)) }
+    ensures names { IfOk result (λ name. names.new ≡ names.old ++ name.now ∷ []) }
 {
     let name = name_of(element)?;
-    if names.insert(name)? {
+    if names.add(name)? {
         Ok(name)
     } else {
         Err(UrdfFaultKind::NameTwice)
-    }
-}
-
-/// The number of a name, from 0.
-pub fn number_of(names: &IndexSet<&str>, name: &str) -> Option<u32>
-    requires { length (texts names.now) ≤ 2 ^ 32 }
-    ensures { result ≡ number_of_name (texts names.now) name.now }
-{
-    match names.get_index_of(name) {
-        Some(number) => Some(number as u32),
-        None => None,
     }
 }

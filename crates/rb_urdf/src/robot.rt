@@ -1,4 +1,4 @@
-ghost use Rattle.std.specs.Prelude.{◌≡◌};
+ghost use Rattle.std.specs.Prelude.{◌≡◌, ◌≢◌, []};
 ghost use Rattle.rb_urdf.specs.Robot.{IsRobot};
 
 use rb_num::Iv;
@@ -113,19 +113,21 @@ pub struct UrdfRobot {
 }
 
 impl Model for UrdfRobot {
+    ghost use Rattle.std.specs.Prelude.{◌≢◌, []};
     ghost use Rattle.rb_urdf.specs.Robot.{Robot, IsRobot};
 
     ghost Value = { Robot };
 
     ghost view = { λ r. record { name = r.name; place = r.place; links = r.links; joints = r.joints } };
 
-    ghost invariant = { λ r. IsRobot r.links r.joints };
+    ghost invariant = { λ r. (r.name ≢ []) × IsRobot r.links r.joints };
 }
 
 impl UrdfRobot {
     /// The robot's name.
     pub fn name(&self) -> &str
-        ensures { result.now ≡ self.now.name }
+        ensures same { result.now ≡ self.now.name }
+        ensures kept { self.now.name ≢ [] }
     {
         self.name.as_str()
     }

@@ -407,3 +407,19 @@ fn ends_are_read(rt: HostRuntime) -> Result<(), Fail> {
     assert!(rt; joint.rpy == [Iv::ZERO, Iv::ZERO, Iv::ONE]);
     Ok(())
 }
+
+fn is_shared<T: Send + Sync>() {}
+
+// Threads may send and share each public type.
+#[test]
+fn types_are_shared(_rt: HostRuntime) {
+    is_shared::<UrdfRobot>();
+    is_shared::<Links>();
+    is_shared::<UrdfLink>();
+    is_shared::<Joints>();
+    is_shared::<UrdfJoint>();
+    is_shared::<UrdfKind>();
+    is_shared::<UrdfMimic>();
+    is_shared::<UrdfFault>();
+    is_shared::<UrdfFaultKind>();
+}
