@@ -14,12 +14,12 @@ use Rattle.rb_urdf.specs.declared.robot.UrdfJoint.{UrdfJoint}
 use Rattle.rb_urdf.specs.declared.joint.Follow.{Follow}
 use Rattle.rb_urdf.specs.declared.joint.Draft.{Draft}
 use Rattle.rb_urdf.specs.declared.mimic.Head.{Head}
-use Rattle.rb_urdf.specs.Robot.{Robot, HasMaster, FollowsWell}
+use Rattle.rb_urdf.specs.Robot.{Robot, HasMaster, FollowsWell, AreDifferent, names_of_links, names_of_joints}
 use Rattle.rb_tags.specs.Elements.{Element, element_of, elements, child, attribute}
 use Rattle.rb_urdf.specs.Joints.{names_of_drafts}
 use Rattle.rb_urdf.specs.Mimics.{may_lead, following_kind, head_of, mimic_of, joint_with, joint_of, joints_after, joints_of}
 use Rattle.rb_urdf.specs.Urdf.{is_xacro, plain_tags, robot_with, robot_of, urdf_of}
-use Rattle.rb_urdf.specs.Profile.{SaysMimic, kind_of_type, IsLink, IsJoint, link_names, joint_names, AreDifferent, IsXacro, IsUrdf}
+use Rattle.rb_urdf.specs.Profile.{SaysMimic, kind_of_type, IsLink, IsJoint, IsXacro, IsUrdf}
 use Rattle.rb_urdf.proofs.NameLaws.{name-read, number-read}
 use Rattle.rb_urdf.proofs.LinkLaws.{links-read}
 use Rattle.rb_urdf.proofs.DraftLaws.{IsDraft, SaysFollow, drafts-read}
@@ -42,7 +42,7 @@ follow-said joints (Some element) (Some mimic) s = record { master = refl; multi
 record Named (joints : List UrdfJoint) (follow : Follow) (mimic : UrdfMimic) : Type 0 where
   name : List ℕ
   says : follow.master ≡ Some name
-  joint : slice_get (joint_names joints) mimic.master ≡ Some name
+  joint : slice_get (names_of_joints joints) mimic.master ≡ Some name
   multiplier : follow.multiplier ≡ mimic.multiplier
   offset : follow.offset ≡ mimic.offset
 
@@ -120,8 +120,8 @@ joints-read names heads done (draft ∷ drafts) [] each = absurd each
 joints-read names heads done (draft ∷ drafts) (joint ∷ joints) each =
     rw each.0 (joints-read names heads (done ++ joint ∷ []) drafts joints each.1 ∙ ap Ok (append_assoc done (joint ∷ []) joints))
 
-module _ (joints : List UrdfJoint) (drafts : List Draft) (before : AllZip (IsBefore joints) drafts joints) (differ : AreDifferent (joint_names joints)) where
-  names-same : names_of_drafts drafts ≡ joint_names joints
+module _ (joints : List UrdfJoint) (drafts : List Draft) (before : AllZip (IsBefore joints) drafts joints) (differ : AreDifferent (names_of_joints joints)) where
+  names-same : names_of_drafts drafts ≡ names_of_joints joints
   names-same = same-maps (IsBefore joints) (λ draft. draft.joint.name) (λ joint. joint.name) (λ draft joint h. ap (λ j. j.name) h.others) drafts joints before
 
   head-of_master : (n : ℕ) → HasMaster joints n → (head : Head) × (slice_get (map head_of drafts) n ≡ Some head) × (head.follows ≡ false) × (may_lead head.kind ≡ true)
@@ -140,7 +140,7 @@ module _ (joints : List UrdfJoint) (drafts : List Draft) (before : AllZip (IsBef
   unfolding mimic_of
   mimic-read kind follow mimic n master moves =
       let head = head-of_master mimic.master master in
-      rw (names-same, n.says, number-read (joint_names joints) n.name mimic.master differ n.joint, head.1, head.2, head.3, moves, n.multiplier, n.offset) refl
+      rw (names-same, n.says, number-read (names_of_joints joints) n.name mimic.master differ n.joint, head.1, head.2, head.3, moves, n.multiplier, n.offset) refl
 
   settled-with : (base joint : UrdfJoint) (follow : Option Follow) (mimic : Option UrdfMimic) → base ≡ record joint { kind = base.kind; mimic = None } → joint.kind ≡ kind_of_type base.kind mimic → AreNamed joints follow mimic → FollowsWell joints joint.kind mimic → joint.mimic ≡ mimic → joint_with (names_of_drafts drafts) (map head_of drafts) base follow ≡ Ok joint
   settled-with base joint None None others kind named follows m = ap Ok (others ∙ same-joint joint base.kind None (kind ∙ sym (kind-alone base.kind)) m)
@@ -174,11 +174,11 @@ none-to-find : (tags : List Tag) → AllByRecursion (λ tag. ¬ IsXacro tag) tag
 none-to-find [] h = refl
 none-to-find (tag ∷ tags) h = rw (not-xacro tag h.0) (none-to-find tags h.1)
 
-robot-read : (name : List ℕ) (place : ℕ) (tags : List Tag) (links : List UrdfLink) (joints : List UrdfJoint) → AllZip IsLink (elements (codes "link") 1 tags) links → AreDifferent (link_names links) → AllZip (IsJoint links joints) (elements (codes "joint") 1 tags) joints → AreDifferent (joint_names joints) → robot_with name place tags ≡ Ok (record { name = name; place = place; links = links; joints = joints })
+robot-read : (name : List ℕ) (place : ℕ) (tags : List Tag) (links : List UrdfLink) (joints : List UrdfJoint) → AllZip IsLink (elements (codes "link") 1 tags) links → AreDifferent (names_of_links links) → AllZip (IsJoint links joints) (elements (codes "joint") 1 tags) joints → AreDifferent (names_of_joints joints) → robot_with name place tags ≡ Ok (record { name = name; place = place; links = links; joints = joints })
 unfolding robot_with
 robot-read name place tags links joints ls apart js differ =
     let d = has-drafts links joints (elements (codes "joint") 1 tags) joints js in
-    let names : joint_names joints ≡ names_of_drafts d.drafts = sym (names-same joints d.drafts d.before differ) in
+    let names : names_of_joints joints ≡ names_of_drafts d.drafts = sym (names-same joints d.drafts d.before differ) in
     rw (
       links-read [] (elements (codes "link") 1 tags) links ls apart,
       drafts-read links [] (elements (codes "joint") 1 tags) d.drafts apart d.read (subst AreDifferent names differ),

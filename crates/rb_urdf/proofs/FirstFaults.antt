@@ -12,7 +12,7 @@ use Rattle.rb_urdf.specs.declared.faults.UrdfFaultKind.TheVariants.{NoRobot, Xac
 use Rattle.rb_urdf.specs.Faults.{fault_at}
 use Rattle.rb_tags.specs.Elements.{Element, element_of, elements}
 use Rattle.rb_urdf.specs.Names.{name_of}
-use Rattle.rb_urdf.specs.Links.{link_of, links_after, names_of_links}
+use Rattle.rb_urdf.specs.Links.{link_of, links_after}
 use Rattle.rb_urdf.specs.Joints.{draft_of, drafts_after, names_of_drafts}
 use Rattle.rb_urdf.specs.Mimics.{joints_of}
 use Rattle.rb_urdf.specs.Urdf.{is_xacro, plain_but, plain_tags, robot_with, robot_of, urdf_of}
@@ -28,6 +28,7 @@ use Rattle.rb_urdf.proofs.RefusedJointLaws.{JointFault, MimicFault, draft-refuse
 use Rattle.rb_result.proofs.Results.{then-err, placed-ok}
 use Rattle.rb_urdf.proofs.Placed.{placed-kind}
 use Rattle.rb_result.specs.Steps.{placed}
+use Rattle.rb_urdf.specs.Robot.{names_of_links}
 
 push : {A B : Type 0} (R : A → B → Type 0) (xs : List A) (ys : List B) (x : A) (y : B) → AllZip R xs ys → R x y → AllZip R (xs ++ x ∷ []) (ys ++ y ∷ [])
 push R [] [] x y each r = (r, tt)

@@ -13,12 +13,12 @@ use Rattle.rb_urdf.specs.declared.faults.UrdfFaultKind.TheVariants.{MimicUnknown
 use Rattle.rb_urdf.specs.declared.joint.Follow.{Follow}
 use Rattle.rb_urdf.specs.declared.joint.Draft.{Draft}
 use Rattle.rb_urdf.specs.declared.mimic.Head.{Head}
-use Rattle.rb_urdf.specs.Robot.{HasMaster, FollowsWell}
+use Rattle.rb_urdf.specs.Robot.{HasMaster, FollowsWell, names_of_joints}
 use Rattle.rb_tags.specs.Elements.{Element, child}
 use Rattle.rb_urdf.specs.Numbers.{zero_interval, one_interval}
 use Rattle.rb_urdf.specs.Joints.{names_of_drafts}
 use Rattle.rb_urdf.specs.Mimics.{may_lead, following_kind, head_of, mimic_of, joint_with, joint_of, joints_after}
-use Rattle.rb_urdf.specs.Profile.{SaysNumber, SaysMimic, kind_of_type, IsJoint, joint_names}
+use Rattle.rb_urdf.specs.Profile.{SaysNumber, SaysMimic, kind_of_type, IsJoint}
 use Rattle.rb_urdf.proofs.NameLaws.{number-says}
 use Rattle.rb_urdf.proofs.DraftLaws.{IsDraft, SaysFollow}
 use Rattle.rb_urdf.proofs.Zips.{beside, beside_left, same-maps, slice_get-of_map}
@@ -148,7 +148,7 @@ module _ (links : List UrdfLink) (elements : List Element) (drafts : List Draft)
   abbrev pub heads : List Head
   heads = map head_of drafts
 
-  pub names-kept : AllZip (IsSettled names heads) drafts joints → names ≡ joint_names joints
+  pub names-kept : AllZip (IsSettled names heads) drafts joints → names ≡ names_of_joints joints
   unfolding joint_of
   names-kept settled = same-maps (IsSettled names heads) (λ draft. draft.joint.name) (λ joint. joint.name) (λ draft joint h. settled-name names heads draft.joint draft.follow joint h) drafts joints settled
 

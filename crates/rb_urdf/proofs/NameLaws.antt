@@ -14,9 +14,10 @@ use Rattle.std.proofs.lemmas.List.Quantifiers.{position-Some}
 use Rattle.rb_urdf.specs.declared.faults.UrdfFaultKind.TheVariants.{NoName, NameTwice}
 use Rattle.rb_tags.specs.Elements.{Element, attribute, given, filled}
 use Rattle.rb_urdf.specs.Names.{new_name, name_of, name_after}
-use Rattle.rb_urdf.specs.Profile.{HasName, AreDifferent}
+use Rattle.rb_urdf.specs.Profile.{HasName}
 use Rattle.rb_tags.specs.Names.{number_of_name}
 use Rattle.rb_result.proofs.Results.{then-ok, found-ok, unless-ok}
+use Rattle.rb_urdf.specs.Robot.{AreDifferent}
 
 filled-says : (text : Option (List ℕ)) (said : List ℕ) → option_and_then filled text ≡ Some said → (text ≡ Some said) × (said ≢ [])
 filled-says None said h = absurd cc

@@ -16,15 +16,14 @@ use Rattle.rb_urdf.specs.declared.faults.UrdfFaultKind.TheVariants.{NoName, Name
 use Rattle.rb_urdf.specs.declared.joint.Follow.{Follow}
 use Rattle.rb_urdf.specs.declared.joint.Draft.{Draft}
 use Rattle.rb_urdf.specs.declared.mimic.Head.{Head}
-use Rattle.rb_urdf.specs.Robot.{plane_axis}
+use Rattle.rb_urdf.specs.Robot.{plane_axis, names_of_links}
 use Rattle.rb_tags.specs.Elements.{Element, child}
 use Rattle.rb_urdf.specs.Numbers.{zero_interval, one_interval, first_axis, number_or, pose_of}
 use Rattle.rb_urdf.specs.Names.{name_after}
-use Rattle.rb_urdf.specs.Links.{names_of_links}
 use Rattle.rb_urdf.specs.Joints.{kind_of, end_of, ends_of, axis_of, follow_in, follow_of, is_planar, is_plane_axis, unmoved, draft_of, names_of_drafts}
 use Rattle.rb_urdf.specs.Mimics.{may_lead, following_kind, head_of, mimic_of, joint_with, joint_of, joints_after}
-use Rattle.rb_urdf.specs.Profile.{HasName, IsLink}
-use Rattle.rb_urdf.specs.Refusals.{SaysNone, LacksName, HasNameAgain, HasType, LacksEnd, NoneHasName, HasUnknownEnd, SaysAxisNumbers, HasBadMimic, JointHasBadNumber, HasOtherAxis, FollowsNone, Follows, FollowsFollower, FollowsUnfit, At}
+use Rattle.rb_urdf.specs.Profile.{HasName, IsLink, SaysAxisNumbers}
+use Rattle.rb_urdf.specs.Refusals.{SaysNone, LacksName, HasNameAgain, HasType, LacksEnd, NoneHasName, HasUnknownEnd, HasBadMimic, JointHasBadNumber, HasOtherAxis, FollowsNone, Follows, FollowsFollower, FollowsUnfit, At}
 use Rattle.rb_urdf.proofs.NumberLaws.{three_or-says}
 use Rattle.rb_urdf.proofs.NameLaws.{number-says}
 use Rattle.rb_urdf.proofs.DraftLaws.{IsDraft, IsFollow, SaysFollow, kind-says, kind-read, plane_axis-exact}

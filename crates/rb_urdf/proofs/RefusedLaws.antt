@@ -12,7 +12,7 @@ use Rattle.rb_urdf.specs.declared.faults.UrdfFaultKind.TheVariants.{NoName, Name
 use Rattle.rb_tags.specs.Elements.{Element, child, child_in, attribute_in, given}
 use Rattle.rb_urdf.specs.Numbers.{zero_interval, zeros, number_in, three_in, said_or, number_or, three_or, pose_of, as_bad_number}
 use Rattle.rb_urdf.specs.Names.{new_name, name_of, name_after}
-use Rattle.rb_urdf.specs.Links.{six_of, inertial_of, link_of, names_of_links}
+use Rattle.rb_urdf.specs.Links.{six_of, inertial_of, link_of}
 use Rattle.rb_urdf.specs.Profile.{SaysNumber, SaysThree, SaysSix, HasName, IsLink}
 use Rattle.rb_urdf.specs.Refusals.{SaysNone, LacksName, HasNameAgain, HasBadPose, LinkHasBadNumber, HasNegativeMass}
 use Rattle.rb_urdf.proofs.NumberLaws.{number_or-says, number_or-read, three_or-read}
@@ -21,6 +21,7 @@ use Rattle.rb_urdf.proofs.LinkLaws.{six-read}
 use Rattle.rb_urdf.proofs.Zips.{beside_left, slice_get-of_map}
 use Rattle.rb_result.proofs.Results.{then-err, found-err, unless-err, not-both, told-err}
 use Rattle.rb_text.specs.Three.{three_of}
+use Rattle.rb_urdf.specs.Robot.{names_of_links}
 
 -- numbers: the one fault is BadNumber
 

@@ -17,14 +17,14 @@ use Rattle.rb_urdf.specs.declared.faults.UrdfFault.{UrdfFault}
 use Rattle.rb_urdf.specs.declared.faults.UrdfFaultKind.TheVariants.{NoRobot}
 use Rattle.rb_urdf.specs.declared.joint.Draft.{Draft}
 use Rattle.rb_urdf.specs.Faults.{fault_at}
-use Rattle.rb_urdf.specs.Robot.{Robot, plane_axis, IsLinkKept, IsJointKept, IsRobot}
+use Rattle.rb_urdf.specs.Robot.{Robot, plane_axis, IsLinkKept, IsJointKept, IsRobot, names_of_links, AreDifferent, names_of_joints}
 use Rattle.rb_tags.specs.Elements.{Element, element_of, is_child, elements, child}
 use Rattle.rb_urdf.specs.Names.{name_of}
-use Rattle.rb_urdf.specs.Links.{links_after, names_of_links}
+use Rattle.rb_urdf.specs.Links.{links_after}
 use Rattle.rb_urdf.specs.Joints.{drafts_after, names_of_drafts}
 use Rattle.rb_urdf.specs.Mimics.{head_of, joint_of, joints_of}
 use Rattle.rb_urdf.specs.Urdf.{is_xacro, plain_but, plain_tags, robot_with, robot_of, urdf_of}
-use Rattle.rb_urdf.specs.Profile.{IsLink, IsJoint, NamesLink, SaysAxis, kind_of_type, link_names, joint_names, AreDifferent, IsXacro, IsUrdf}
+use Rattle.rb_urdf.specs.Profile.{IsLink, IsJoint, NamesLink, SaysAxis, kind_of_type, IsXacro, IsUrdf}
 use Rattle.rb_urdf.proofs.NameLaws.{name-says, differ-none}
 use Rattle.rb_urdf.proofs.LinkLaws.{links-say}
 use Rattle.rb_urdf.proofs.DraftLaws.{IsDraft, drafts-say}
@@ -37,9 +37,9 @@ use Rattle.rb_tags.specs.declared.tag.TheConstants.{MAX_TAGS}
 -- the links and the joints that were read
 pub record PartsRead (tags : List Tag) (links : List UrdfLink) (joints : List UrdfJoint) : Type 0 where
   pub links_are : AllZip IsLink (elements (codes "link") 1 tags) links
-  pub links_differ : AreDifferent (link_names links)
+  pub links_differ : AreDifferent (names_of_links links)
   pub joints_are : AllZip (IsJoint links joints) (elements (codes "joint") 1 tags) joints
-  pub joints_differ : AreDifferent (joint_names joints)
+  pub joints_differ : AreDifferent (names_of_joints joints)
 
 pub parts-say : (tags : List Tag) (links : List UrdfLink) (drafts : List Draft) (joints : List UrdfJoint) → links_after [] (elements (codes "link") 1 tags) ≡ Ok links → drafts_after (names_of_links links) [] (elements (codes "joint") 1 tags) ≡ Ok drafts → joints_of drafts ≡ Ok joints → PartsRead tags links joints
 unfolding joints_of joint_of
@@ -68,7 +68,7 @@ few-elements name around (tag ∷ tags) = by (is_child name around tag) (few-ele
     by false h = omega arith
 
 within : (links : List UrdfLink) (element : Option Element) (number : ℕ) → NamesLink links element number → number < length links
-within links element number h = omega (arith, slice_get_within (link_names links) number h.name h.link, length-map links (λ link. link.name))
+within links element number h = omega (arith, slice_get_within (names_of_links links) number h.name h.link, length-map links (λ link. link.name))
 
 planar-axis : (type kind : UrdfKind) (mimic : Option UrdfMimic) (axis : Option Element) (v : List _) → kind ≡ kind_of_type type mimic → kind ≡ Planar → SaysAxis type axis v → v ≡ plane_axis
 planar-axis Planar kind mimic axis v k p s = s.1

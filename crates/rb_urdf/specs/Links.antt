@@ -1,5 +1,5 @@
 -- The links of a robot.
-use Rattle.std.specs.Prelude.{ℕ, if◌then◌else◌, List, [], ◌∷◌, ◌++◌, map, codes, pos, int_lt, Option, Result, Ok, Err}
+use Rattle.std.specs.Prelude.{ℕ, if◌then◌else◌, List, [], ◌∷◌, ◌++◌, codes, pos, int_lt, Option, Result, Ok, Err}
 use Rattle.rb_num.specs.Interval.{Interval}
 use Rattle.rb_urdf.specs.declared.robot.UrdfLink.{UrdfLink}
 use Rattle.rb_urdf.specs.declared.faults.UrdfFault.{UrdfFault}
@@ -11,6 +11,7 @@ use Rattle.rb_urdf.specs.Numbers.{zero_interval, number_or, pose_of}
 use Rattle.rb_urdf.specs.Names.{name_after}
 use Rattle.rb_result.specs.Steps.{◌>>=◌, placed}
 use Rattle.rb_urdf.specs.Faults.{fault_at}
+use Rattle.rb_urdf.specs.Robot.{names_of_links}
 
 -- ixx ixy ixz iyy iyz izz
 unfoldable pub six_of : Option Element → Result (List Interval) UrdfFaultKind
@@ -41,9 +42,6 @@ link_of names element =
     name_after names element >>= λ name.
     inertial_of (child (codes "inertial") element) >>= λ inertial.
     Ok (link_with name element.tag.place inertial)
-
-abbrev pub names_of_links : List UrdfLink → List (List ℕ)
-names_of_links links = map (λ link. link.name) links
 
 -- these links and those of the elements behind them
 unfoldable pub links_after : List UrdfLink → List Element → Result (List UrdfLink) UrdfFault

@@ -1,5 +1,5 @@
 -- Which robot a list of tags describes, in the words of the format.
-use Rattle.std.specs.Prelude.{◌≡◌, ◌≢◌, ℕ, List, [], ◌∷◌, ◌++◌, map, slice_get, codes, AllPairs, pos, ◌≤ℤ◌, Option, None, Some, Ok}
+use Rattle.std.specs.Prelude.{◌≡◌, ◌≢◌, ℕ, List, [], ◌∷◌, ◌++◌, slice_get, codes, pos, ◌≤ℤ◌, Option, None, Some, Ok}
 use Rattle.std.specs.List.{AllByRecursion, AllZip}
 use Rattle.rb_num.specs.Interval.{Interval}
 use Rattle.rb_text.specs.Bracket.{bracket_of}
@@ -9,7 +9,7 @@ use Rattle.rb_urdf.specs.declared.robot.UrdfKind.TheVariants.{Fixed, Revolute, P
 use Rattle.rb_urdf.specs.declared.robot.UrdfLink.{UrdfLink}
 use Rattle.rb_urdf.specs.declared.robot.UrdfMimic.{UrdfMimic}
 use Rattle.rb_urdf.specs.declared.robot.UrdfJoint.{UrdfJoint}
-use Rattle.rb_urdf.specs.Robot.{Robot, plane_axis, FollowsWell}
+use Rattle.rb_urdf.specs.Robot.{Robot, plane_axis, FollowsWell, names_of_links, names_of_joints, AreDifferent}
 use Rattle.rb_tags.specs.Elements.{Element, element_of, elements, child, child_in, attribute, attribute_in}
 use Rattle.rb_urdf.specs.Numbers.{zero_interval, one_interval, zeros, first_axis}
 use Rattle.rb_text.specs.Three.{IsThree}
@@ -67,17 +67,11 @@ pub record IsLink (element : Element) (link : UrdfLink) : Type 0 where
   pub place : link.place ≡ element.tag.place
   pub inertial : IsInertial (child (codes "inertial") element) link
 
-abbrev pub link_names : List UrdfLink → List (List ℕ)
-link_names links = map (λ link. link.name) links
-
-abbrev pub joint_names : List UrdfJoint → List (List ℕ)
-joint_names joints = map (λ joint. joint.name) joints
-
 -- the element names the link of this number
 pub record NamesLink (links : List UrdfLink) (element : Option Element) (number : ℕ) : Type 0 where
   pub name : List ℕ
   pub says : attribute_in (codes "link") element ≡ Some name
-  pub link : slice_get (link_names links) number ≡ Some name
+  pub link : slice_get (names_of_links links) number ≡ Some name
 
 abbrev pub type_name : UrdfKind → List ℕ
 type_name Fixed = codes "fixed"
@@ -87,20 +81,25 @@ type_name Continuous = codes "continuous"
 type_name Planar = codes "planar"
 type_name Floating = codes "floating"
 
+-- the numbers of the `axis` of a joint of a type: a fixed or floating one reads none
+abbrev pub SaysAxisNumbers : UrdfKind → Option Element → List Interval → Type 0
+SaysAxisNumbers Fixed axis v = v ≡ zeros
+SaysAxisNumbers Floating axis v = v ≡ zeros
+SaysAxisNumbers Planar axis v = SaysThree plane_axis (codes "xyz") axis v
+SaysAxisNumbers Revolute axis v = SaysThree first_axis (codes "xyz") axis v
+SaysAxisNumbers Prismatic axis v = SaysThree first_axis (codes "xyz") axis v
+SaysAxisNumbers Continuous axis v = SaysThree first_axis (codes "xyz") axis v
+
 -- the axis that the element `axis` says of a joint of a type: none where it is fixed or floating, and 0 0 1 where it is planar
 abbrev pub SaysAxis : UrdfKind → Option Element → List Interval → Type 0
-SaysAxis Fixed axis v = v ≡ zeros
-SaysAxis Floating axis v = v ≡ zeros
-SaysAxis Planar axis v = SaysThree plane_axis (codes "xyz") axis v × (v ≡ plane_axis)
-SaysAxis Revolute axis v = SaysThree first_axis (codes "xyz") axis v
-SaysAxis Prismatic axis v = SaysThree first_axis (codes "xyz") axis v
-SaysAxis Continuous axis v = SaysThree first_axis (codes "xyz") axis v
+SaysAxis Planar axis v = SaysAxisNumbers Planar axis v × (v ≡ plane_axis)
+SaysAxis type axis v = SaysAxisNumbers type axis v
 
 -- what an element `mimic` says: the joint of its number has the name that it says
 pub record IsMimic (joints : List UrdfJoint) (element : Element) (mimic : UrdfMimic) : Type 0 where
   pub name : List ℕ
   pub says : attribute (codes "joint") element ≡ Some name
-  pub joint : slice_get (joint_names joints) mimic.master ≡ Some name
+  pub joint : slice_get (names_of_joints joints) mimic.master ≡ Some name
   pub multiplier : SaysNumber one_interval (codes "multiplier") (Some element) mimic.multiplier
   pub offset : SaysNumber zero_interval (codes "offset") (Some element) mimic.offset
 
@@ -129,9 +128,6 @@ pub record IsJoint (links : List UrdfLink) (joints : List UrdfJoint) (element : 
   pub mimic : SaysMimic joints (child (codes "mimic") element) joint.mimic
   pub follows : FollowsWell joints joint.kind joint.mimic
 
-abbrev pub AreDifferent : List (List ℕ) → Type 0
-AreDifferent names = AllPairs (λ a b. a ≢ b) names
-
 -- the name of the tag begins with xacro:
 abbrev pub IsXacro : Tag → Type 0
 IsXacro tag = (rest : List ℕ) × (tag.name ≡ codes "xacro:" ++ rest)
@@ -146,6 +142,6 @@ pub record IsUrdf (tags : List Tag) (robot : Robot) : Type 0 where
   pub name : HasName (element_of root behind) robot.name
   pub place : robot.place ≡ root.place
   pub links : AllZip IsLink (elements (codes "link") 1 behind) robot.links
-  pub link_names_differ : AreDifferent (link_names robot.links)
+  pub link_names_differ : AreDifferent (names_of_links robot.links)
   pub joints : AllZip (IsJoint robot.links robot.joints) (elements (codes "joint") 1 behind) robot.joints
-  pub joint_names_differ : AreDifferent (joint_names robot.joints)
+  pub joint_names_differ : AreDifferent (names_of_joints robot.joints)

@@ -4,14 +4,14 @@ use Rattle.std.specs.List.{AllByRecursion}
 use Rattle.rb_num.specs.Interval.{Interval}
 use Rattle.rb_tags.specs.declared.tag.Tag.{Tag}
 use Rattle.rb_urdf.specs.declared.robot.UrdfKind.{UrdfKind}
-use Rattle.rb_urdf.specs.declared.robot.UrdfKind.TheVariants.{Fixed, Revolute, Prismatic, Continuous, Planar, Floating}
+use Rattle.rb_urdf.specs.declared.robot.UrdfKind.TheVariants.{Fixed, Revolute, Prismatic, Planar, Floating}
 use Rattle.rb_urdf.specs.declared.faults.UrdfFault.{UrdfFault}
 use Rattle.rb_urdf.specs.declared.faults.UrdfFaultKind.{UrdfFaultKind}
 use Rattle.rb_urdf.specs.declared.faults.UrdfFaultKind.TheVariants as kind
 use Rattle.rb_urdf.specs.Robot.{plane_axis}
 use Rattle.rb_tags.specs.Elements.{Element, element_of, elements, child, child_in, attribute, attribute_in}
-use Rattle.rb_urdf.specs.Numbers.{zero_interval, one_interval, zeros, first_axis}
-use Rattle.rb_urdf.specs.Profile.{SaysNumber, SaysThree, SaysSix, HasName, type_name, IsXacro}
+use Rattle.rb_urdf.specs.Numbers.{zero_interval, one_interval, zeros}
+use Rattle.rb_urdf.specs.Profile.{SaysNumber, SaysThree, SaysSix, SaysAxisNumbers, HasName, type_name, IsXacro}
 
 -- no value is said
 abbrev pub SaysNone : {A : Type 0} → (A → Type 0) → Type 0
@@ -64,15 +64,6 @@ pub record HasUnknownEnd (links : List Element) (end : List ℕ) (joint : Elemen
   pub name : List ℕ
   pub says : attribute_in (codes "link") (child end joint) ≡ Some name
   pub unknown : NoneHasName links name
-
--- the numbers of the `axis` of a joint of a type: a fixed or floating one reads none
-abbrev pub SaysAxisNumbers : UrdfKind → Option Element → List Interval → Type 0
-SaysAxisNumbers Fixed axis v = v ≡ zeros
-SaysAxisNumbers Floating axis v = v ≡ zeros
-SaysAxisNumbers Planar axis v = SaysThree plane_axis (codes "xyz") axis v
-SaysAxisNumbers Revolute axis v = SaysThree first_axis (codes "xyz") axis v
-SaysAxisNumbers Prismatic axis v = SaysThree first_axis (codes "xyz") axis v
-SaysAxisNumbers Continuous axis v = SaysThree first_axis (codes "xyz") axis v
 
 pub record HasBadAxis (joint : Element) : Type 0 where
   pub type : UrdfKind

@@ -16,10 +16,20 @@ pub record Robot : Type 0 where
   pub links : List UrdfLink
   pub joints : List UrdfJoint
 
+-- no two names are the same
+abbrev pub AreDifferent : List (List ℕ) → Type 0
+AreDifferent names = AllPairs (λ a b. a ≢ b) names
+
 -- names are given, and no two are the same
 pub record AreNames (names : List (List ℕ)) : Type 0 where
   pub given : AllByRecursion (λ name. name ≢ []) names
-  pub differ : AllPairs (λ a b. a ≢ b) names
+  pub differ : AreDifferent names
+
+abbrev pub names_of_links : List UrdfLink → List (List ℕ)
+names_of_links links = map (λ link. link.name) links
+
+abbrev pub names_of_joints : List UrdfJoint → List (List ℕ)
+names_of_joints joints = map (λ joint. joint.name) joints
 
 -- no number of the mass is negative
 abbrev pub IsLinkKept : UrdfLink → Type 0
@@ -55,7 +65,7 @@ pub record IsJointKept (links : List UrdfLink) (joints : List UrdfJoint) (joint 
 pub record IsRobot (links : List UrdfLink) (joints : List UrdfJoint) : Type 0 where
   pub few_links : length links ≤ MAX_TAGS
   pub few_joints : length joints ≤ MAX_TAGS
-  pub link_names : AreNames (map (λ link. link.name) links)
-  pub joint_names : AreNames (map (λ joint. joint.name) joints)
+  pub link_names : AreNames (names_of_links links)
+  pub joint_names : AreNames (names_of_joints joints)
   pub masses : AllByRecursion IsLinkKept links
   pub fits : AllByRecursion (IsJointKept links joints) joints

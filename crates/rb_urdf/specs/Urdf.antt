@@ -4,11 +4,11 @@ use Rattle.std.specs.List.{starts_with}
 use Rattle.rb_tags.specs.declared.tag.Tag.{Tag}
 use Rattle.rb_urdf.specs.declared.faults.UrdfFault.{UrdfFault}
 use Rattle.rb_urdf.specs.declared.faults.UrdfFaultKind.TheVariants.{NoRobot, Xacro}
-use Rattle.rb_urdf.specs.Robot.{Robot}
+use Rattle.rb_urdf.specs.Robot.{Robot, names_of_links}
 use Rattle.rb_urdf.specs.Faults.{fault_at}
 use Rattle.rb_tags.specs.Elements.{element_of, elements}
 use Rattle.rb_urdf.specs.Names.{name_of}
-use Rattle.rb_urdf.specs.Links.{links_after, names_of_links}
+use Rattle.rb_urdf.specs.Links.{links_after}
 use Rattle.rb_urdf.specs.Joints.{drafts_after}
 use Rattle.rb_urdf.specs.Mimics.{joints_of}
 pub use Rattle.rb_urdf.specs.Faults.{no_memory}

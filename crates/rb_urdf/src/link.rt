@@ -1,10 +1,11 @@
 // The links of a robot.
 ghost use Rattle.std.specs.Prelude.{◌≡◌, ◌≤◌, ◌++◌, ◌∷◌, [], codes, length, IfOk, option_map};
 ghost use Rattle.rb_tags.specs.Elements.{elements, as_element};
-ghost use Rattle.rb_urdf.specs.Links.{six_of, inertial_of, link_of, links_after, names_of_links};
+ghost use Rattle.rb_urdf.specs.Links.{six_of, inertial_of, link_of, links_after};
 ghost use Rattle.rb_result.specs.Steps.{Gives};
 ghost use Rattle.rb_urdf.specs.declared.faults.UrdfFaultKind.TheVariants.{Memory};
 ghost use Rattle.rb_urdf.specs.Faults.{no_memory};
+ghost use Rattle.rb_urdf.specs.Robot.{names_of_links};
 
 use crate::faults::{UrdfFault, UrdfFaultKind, fault};
 use crate::names::take_name;

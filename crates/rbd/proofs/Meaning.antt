@@ -4,7 +4,7 @@ use Rattle.rb_num.specs.Interval.{Interval}
 use Rattle.rbd.specs.declared.fault.RowFault.{RowFault}
 use Rattle.rbd.specs.declared.field.FieldFault.{FieldFault}
 use Rattle.rbd.specs.Chain.{Links}
-use Rattle.rbd.specs.Course.{answer_of, answer_of_fields, answered}
+use Rattle.rbd.specs.Course.{answer_of, answered}
 use Rattle.rbd.specs.Cut.{Line}
 use Rattle.rbd.specs.Dynamics.{torques_of}
 use Rattle.rbd.specs.Fields.{row_of, intervals_of, before, numbered, field_of, fields}

@@ -1,10 +1,9 @@
 -- The status and the line on standard error of an answer.
-use Rattle.std.specs.Prelude.{◌≡◌, ◌<◌, Option, None, List, ℕ, [], ◌∷◌, ◌++◌, Bool, true, false, Result, Ok, Err, codes, decimal}
+use Rattle.std.specs.Prelude.{◌≡◌, ◌<◌, None, List, ℕ, [], ◌∷◌, ◌++◌, Bool, true, false, Result, Ok, Err, codes, decimal}
 use Rattle.rbd.specs.declared.stop.Stop.{Stop}
 use Rattle.rbd.specs.declared.stop.Stop.TheVariants.{Usage, BadTags, Unbuilt, LongFile, BadHeader, LongLine, LongRows, Input, Output, Memory}
 use Rattle.rbd.specs.declared.status.Status.{Status}
 use Rattle.rbd.specs.declared.status.Status.TheVariants as status
-use Rattle.rb_io.specs.Calls.{PutsPart}
 use Rattle.rb_tags.specs.declared.read.TagFault.{TagFault}
 use Rattle.rb_tags.specs.declared.read.TagKind.{TagKind}
 use Rattle.rb_tags.specs.declared.read.TagKind.TheVariants as tag

@@ -1,11 +1,12 @@
 use Rattle.std.proofs.Common.{◌∙◌, sym, refl, ap, arith}
 use Rattle.std.specs.Prelude.{codes}
-use Rattle.rb_urdf.specs.Links.{links_after, link_of, names_of_links}
+use Rattle.rb_urdf.specs.Links.{links_after, link_of}
 use Rattle.rb_tags.proofs.Folds.{IsFold, fold-fails, fold-more, fold-other, fold-end, names_more, few_more, few_other}
 use Rattle.rb_urdf.proofs.link.read_links.Goals as goal
 use Rattle.rb_tags.specs.Elements.{as_element}
 use Rattle.rb_urdf.specs.Faults.{fault_at}
 use Rattle.rb_urdf.proofs.Placed.{is_placing}
+use Rattle.rb_urdf.specs.Robot.{names_of_links}
 
 is_fold : IsFold fault_at links_after (λ links element. link_of (names_of_links links) element)
 unfolding links_after

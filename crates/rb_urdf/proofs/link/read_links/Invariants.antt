@@ -1,8 +1,9 @@
 use Rattle.std.proofs.Common.{◌≡◌, ◌≤◌, ◌+◌, [], length}
 use Rattle.std.specs.Prelude.{codes}
 use Rattle.rb_tags.specs.Elements.{elements}
-use Rattle.rb_urdf.specs.Links.{links_after, names_of_links}
+use Rattle.rb_urdf.specs.Links.{links_after}
 use Rattle.rb_urdf.proofs.link.read_links.Given as goal
+use Rattle.rb_urdf.specs.Robot.{names_of_links}
 
 -- what is left gives the links that are missing
 abbrev pub invariant-loop-rest : goal.invariant-loop-rest

@@ -1,4 +1,3 @@
-use Rattle.std.proofs.Common.{rules}
 use Rattle.rb_io.proofs.Parts.{part_first, part_later}
 use Rattle.rbd.proofs.rows.answer_all.Goals as goal
 
