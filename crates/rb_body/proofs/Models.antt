@@ -41,13 +41,13 @@ use Rattle.rb_body.specs.Joint.{axis_by, fixed_by, revolute_by, prismatic_by, jo
 use Rattle.rb_body.proofs.Links.{next_ok}
 
 -- ---- models
-place_lies : (m : AnyJoint) (q : List Interval) (p : Place Interval) → length q ≡ entry_count (Model.kind_of m) → Model.any_place m q ≡ Ok p → EnclosesPlace (Model.kind_of m) (Model.HasChoice m) q p
+place_lies : (m : AnyJoint) (q : List Interval) (p : Place Interval) → length q ≡ entry_count (Model.kind_of m) → Model.any_place m q ≡ Ok p → EnclosesPlace (Model.kind_of m) (Model.IsOfModel m) q p
 unfolding any_place
 place_lies (Variant.Fixed m) q p h e = fixed_answer m.frame q p e
 place_lies (Variant.Revolute m) q p h e = revolute_answer m.frame m.axis q p h e
 place_lies (Variant.Prismatic m) q p h e = prismatic_answer m.frame m.axis q p h e
 
-column_lies : (m : AnyJoint) (c : JointChoice) (k : ℕ) → Model.HasChoice m c → Motions LiesIn (chosen_column (Model.kind_of m) c k) (Model.any_column m k)
+column_lies : (m : AnyJoint) (c : JointChoice) (k : ℕ) → Model.IsOfModel m c → Motions LiesIn (chosen_column (Model.kind_of m) c k) (Model.any_column m k)
 unfolding chosen_column joint_column any_column
 column_lies (Variant.Fixed m) c k h = record {
   lin = record { x = to_intervals.zero; y = to_intervals.zero; z = to_intervals.zero };
@@ -57,7 +57,7 @@ column_lies (Variant.Revolute m) c k h = (revolute_column m.frame m.axis k _ ref
 column_lies (Variant.Prismatic m) c k h = (prismatic_column m.frame m.axis k _ refl).at c h
 
 -- a model of the kind of the joint that has each choice of it
-encloses_by : (m : AnyJoint) (j : JointRaw) → Model.kind_of m ≡ kind_of j.kind → ((c : JointChoice) → JointChosen (kind_of j.kind) c (joint_brackets j) → Model.HasChoice m c) → EnclosesJoint m j
+encloses_by : (m : AnyJoint) (j : JointRaw) → Model.kind_of m ≡ kind_of j.kind → ((c : JointChoice) → JointChosen (kind_of j.kind) c (joint_brackets j) → Model.IsOfModel m c) → EnclosesJoint m j
 encloses_by m j e h = record {
   kind = e;
   choice = h;

@@ -84,6 +84,6 @@ pub record HasNumbers (k : UrdfKind) (xyz rpy a : List Interval) (j : JointRaw) 
 -- those of the joint relation
 pub record EnclosesJoint (m : AnyJoint) (j : JointRaw) : Type 0 where
   pub kind : Model.kind_of m ≡ kind_of j.kind
-  pub choice : (c : JointChoice) → JointChosen (kind_of j.kind) c (joint_brackets j) → Model.HasChoice m c
+  pub choice : (c : JointChoice) → JointChosen (kind_of j.kind) c (joint_brackets j) → Model.IsOfModel m c
   pub place : (c : JointChoice) (q : List Interval) (p : Place Interval) → JointChosen (kind_of j.kind) c (joint_brackets j) → AllZip LiesIn c.entries q → Model.any_place m q ≡ Ok p → Places LiesIn (chosen_place (kind_of j.kind) c) p
   pub column : (c : JointChoice) (k : ℕ) → JointChosen (kind_of j.kind) c (joint_brackets j) → Motions LiesIn (chosen_column (kind_of j.kind) c k) (Model.any_column m k)

@@ -20,10 +20,10 @@ kind_of (Revolute m) = Flat.Revolute
 kind_of (Prismatic m) = Flat.Prismatic
 
 -- the frame of the choice, and its axis where the joint has one, are among those of the model
-abbrev pub HasChoice : AnyJoint → JointChoice → Type 0
-HasChoice (Fixed m) c = HasFrame m.frame c
-HasChoice (Revolute m) c = HasFrameAndAxis m.frame m.axis c
-HasChoice (Prismatic m) c = HasFrameAndAxis m.frame m.axis c
+abbrev pub IsOfModel : AnyJoint → JointChoice → Type 0
+IsOfModel (Fixed m) c = HasFrame m.frame c
+IsOfModel (Revolute m) c = HasFrameAndAxis m.frame m.axis c
+IsOfModel (Prismatic m) c = HasFrameAndAxis m.frame m.axis c
 
 unfoldable pub any_place : AnyJoint → List Interval → Result (Place Interval) JointFault
 any_place (Fixed m) q = fixed_place m.frame

@@ -17,7 +17,7 @@ pub enum AnyJoint {
 impl AnyJoint {
     ghost use Rattle.rb_flat.specs.Joint.{entry_count, column_count};
     ghost use Rattle.rb_joint.specs.Model.{EnclosesPlace, EnclosesColumn};
-    ghost use Rattle.rb_joint.specs.Any.{kind_of, HasChoice, PassesRange, any_place, any_column};
+    ghost use Rattle.rb_joint.specs.Any.{kind_of, IsOfModel, PassesRange, any_place, any_column};
 
     /// How many entries the position has.
     pub fn nq(&self) -> usize
@@ -50,7 +50,7 @@ impl AnyJoint {
     pub fn place(&self, q: &[Iv]) -> Result<Place, JointFault>
         requires { length q.now ≡ entry_count (kind_of self.now) }
         ensures exact { result ≡ any_place self.now q.now }
-        ensures encloses { IfOk result (EnclosesPlace (kind_of self.now) (HasChoice self.now) q.now) }
+        ensures encloses { IfOk result (EnclosesPlace (kind_of self.now) (IsOfModel self.now) q.now) }
         ensures range { IsErrOf result JointFault.Range ↔ PassesRange self.now q.now }
     {
         match self {
@@ -66,7 +66,7 @@ impl AnyJoint {
     pub fn column(&self, k: usize) -> Motion
         requires { k < column_count (kind_of self.now) }
         ensures exact { result ≡ any_column self.now k }
-        ensures encloses { EnclosesColumn (kind_of self.now) (HasChoice self.now) k result }
+        ensures encloses { EnclosesColumn (kind_of self.now) (IsOfModel self.now) k result }
     {
         match self {
             AnyJoint::Fixed(joint) => joint.column(k),

@@ -6,7 +6,7 @@ use Rattle.std.specs.List.{AllZip, list_any}
 use Rattle.std.proofs.lemmas.Bool.Decides.{Decides-int_eq}
 use Rattle.std.proofs.lemmas.Slice.Eq.{bytes_eq-Decides}
 use Rattle.std.proofs.lemmas.List.{append-nil, map-append}
-use Rattle.rb_num.specs.Interval.{Interval, interval, grid}
+use Rattle.rb_num.specs.Interval.{Interval, interval, grid, zero_interval, one_interval}
 use Rattle.rb_urdf.specs.declared.robot.UrdfKind.{UrdfKind}
 use Rattle.rb_urdf.specs.declared.robot.UrdfKind.TheVariants.{Fixed, Revolute, Prismatic, Continuous, Planar, Floating}
 use Rattle.rb_urdf.specs.declared.robot.UrdfLink.{UrdfLink}
@@ -17,7 +17,7 @@ use Rattle.rb_urdf.specs.declared.joint.Follow.{Follow}
 use Rattle.rb_urdf.specs.declared.joint.Draft.{Draft}
 use Rattle.rb_urdf.specs.Robot.{plane_axis, names_of_links, AreDifferent}
 use Rattle.rb_tags.specs.Elements.{Element, child, attribute, attribute_in}
-use Rattle.rb_urdf.specs.Numbers.{zero_interval, one_interval, zeros, first_axis, number_or, pose_of}
+use Rattle.rb_urdf.specs.Numbers.{zeros, first_axis, number_or, pose_of}
 use Rattle.rb_urdf.specs.Names.{name_after}
 use Rattle.rb_urdf.specs.Joints.{kind_named, kind_of, end_of, ends_of, axis_of, follow_in, follow_of, is_planar, is_exactly, is_plane_axis, unmoved, draft_of, names_of_drafts, drafts_after}
 use Rattle.rb_urdf.specs.Profile.{SaysNumber, SaysPose, HasName, NamesLink, SaysAxis, type_name}

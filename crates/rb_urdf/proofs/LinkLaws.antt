@@ -4,13 +4,13 @@ use Rattle.std.specs.Prelude.{codes, ℤ, pos, ◌≤ℤ◌, int_lt, bytes_eq}
 use Rattle.std.specs.List.{AllZip, list_any}
 use Rattle.std.proofs.lemmas.List.{append-nil, map-append}
 use Rattle.std.proofs.lemmas.Int.{ints}
-use Rattle.rb_num.specs.Interval.{Interval}
+use Rattle.rb_num.specs.Interval, zero_interval.{Interval, zero_interval}
 use Rattle.rb_urdf.specs.declared.robot.UrdfLink.{UrdfLink}
 use Rattle.rb_urdf.specs.declared.faults.UrdfFaultKind.{UrdfFaultKind}
 use Rattle.rb_urdf.specs.declared.faults.UrdfFaultKind.TheVariants.{NegativeMass}
 use Rattle.rb_urdf.specs.declared.link.Inertial.{Inertial}
 use Rattle.rb_tags.specs.Elements.{Element, child, child_in}
-use Rattle.rb_urdf.specs.Numbers.{zero_interval, number_or, pose_of}
+use Rattle.rb_urdf.specs.Numbers.{number_or, pose_of}
 use Rattle.rb_urdf.specs.Names.{name_after}
 use Rattle.rb_urdf.specs.Links.{six_of, inertial_of, link_with, link_of, links_after}
 use Rattle.rb_urdf.specs.Profile.{SaysSix, IsInertial, IsLink}

@@ -15,7 +15,7 @@ use Rattle.rb_urdf.specs.declared.joint.Draft.{Draft}
 use Rattle.rb_urdf.specs.declared.mimic.Head.{Head}
 use Rattle.rb_urdf.specs.Robot.{HasMaster, FollowsWell, names_of_joints}
 use Rattle.rb_tags.specs.Elements.{Element, child}
-use Rattle.rb_urdf.specs.Numbers.{zero_interval, one_interval}
+use Rattle.rb_num.specs.Interval.{zero_interval, one_interval}
 use Rattle.rb_urdf.specs.Joints.{names_of_drafts}
 use Rattle.rb_urdf.specs.Mimics.{may_lead, following_kind, head_of, mimic_of, joint_with, joint_of, joints_after}
 use Rattle.rb_urdf.specs.Profile.{SaysNumber, SaysMimic, kind_of_type, IsJoint}

@@ -5,7 +5,7 @@ use Rattle.std.specs.List.{AllZip, position_or_len}
 use Rattle.std.proofs.lemmas.Slice.Eq.{bytes_eq-Decides}
 use Rattle.std.proofs.lemmas.List.Sums.{prefix_len_passes}
 use Rattle.std.proofs.lemmas.Bool.Decides.{nat_tests}
-use Rattle.rb_num.specs.Interval.{Interval}
+use Rattle.rb_num.specs.Interval, zero_interval, one_interval.{Interval, zero_interval, one_interval}
 use Rattle.rb_urdf.specs.declared.robot.UrdfKind.{UrdfKind}
 use Rattle.rb_urdf.specs.declared.robot.UrdfKind.TheVariants.{Fixed, Revolute, Prismatic, Continuous, Planar, Floating}
 use Rattle.rb_urdf.specs.declared.robot.UrdfLink.{UrdfLink}
@@ -18,7 +18,7 @@ use Rattle.rb_urdf.specs.declared.joint.Draft.{Draft}
 use Rattle.rb_urdf.specs.declared.mimic.Head.{Head}
 use Rattle.rb_urdf.specs.Robot.{plane_axis, names_of_links}
 use Rattle.rb_tags.specs.Elements.{Element, child}
-use Rattle.rb_urdf.specs.Numbers.{zero_interval, one_interval, first_axis, number_or, pose_of}
+use Rattle.rb_urdf.specs.Numbers.{first_axis, number_or, pose_of}
 use Rattle.rb_urdf.specs.Names.{name_after}
 use Rattle.rb_urdf.specs.Joints.{kind_of, end_of, ends_of, axis_of, follow_in, follow_of, is_planar, is_plane_axis, unmoved, draft_of, names_of_drafts}
 use Rattle.rb_urdf.specs.Mimics.{may_lead, following_kind, head_of, mimic_of, joint_with, joint_of, joints_after}

@@ -4,13 +4,13 @@ use Rattle.std.specs.Prelude.{codes, pos, int_lt, ◌<ℤ◌, bytes_eq}
 use Rattle.std.specs.List.{AllZip, list_any}
 use Rattle.std.proofs.lemmas.Int.{ints}
 use Rattle.std.proofs.lemmas.Slice.Eq.{bytes_eq-Decides}
-use Rattle.rb_num.specs.Interval.{Interval}
+use Rattle.rb_num.specs.Interval, zero_interval.{Interval, zero_interval}
 use Rattle.rb_text.specs.Bracket.{bracket_of}
 use Rattle.rb_urdf.specs.declared.robot.UrdfLink.{UrdfLink}
 use Rattle.rb_urdf.specs.declared.faults.UrdfFaultKind.{UrdfFaultKind}
 use Rattle.rb_urdf.specs.declared.faults.UrdfFaultKind.TheVariants.{NoName, NameTwice, BadNumber, NegativeMass}
 use Rattle.rb_tags.specs.Elements.{Element, child, child_in, attribute_in, given}
-use Rattle.rb_urdf.specs.Numbers.{zero_interval, zeros, number_in, three_in, said_or, number_or, three_or, pose_of, as_bad_number}
+use Rattle.rb_urdf.specs.Numbers.{zeros, number_in, three_in, said_or, number_or, three_or, pose_of, as_bad_number}
 use Rattle.rb_urdf.specs.Names.{new_name, name_of, name_after}
 use Rattle.rb_urdf.specs.Links.{six_of, inertial_of, link_of}
 use Rattle.rb_urdf.specs.Profile.{SaysNumber, SaysThree, SaysSix, HasName, IsLink}

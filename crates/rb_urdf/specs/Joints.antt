@@ -1,7 +1,7 @@
 -- The joints of a robot, whose mimics still name the joint that they follow.
 use Rattle.std.specs.Prelude.{ℕ, ℤ, Bool, true, false, not, ◌&&◌, if◌then◌else◌, List, [], ◌∷◌, ◌++◌, map, codes, pos, bytes_eq, Option, Some, None, option_and_then, Result, Ok, Err}
 use Rattle.std.specs.Ordering.{int_eq}
-use Rattle.rb_num.specs.Interval.{Interval, grid}
+use Rattle.rb_num.specs.Interval.{Interval, grid, zero_interval, one_interval}
 use Rattle.rb_urdf.specs.declared.robot.UrdfKind.{UrdfKind}
 use Rattle.rb_urdf.specs.declared.robot.UrdfKind.TheVariants.{Fixed, Revolute, Prismatic, Continuous, Planar, Floating}
 use Rattle.rb_urdf.specs.declared.robot.UrdfJoint.{UrdfJoint}
@@ -14,7 +14,7 @@ use Rattle.rb_urdf.specs.declared.joint.Follow.{Follow}
 use Rattle.rb_urdf.specs.declared.joint.Draft.{Draft}
 use Rattle.rb_urdf.specs.Robot.{plane_axis}
 use Rattle.rb_tags.specs.Elements.{Element, child, attribute, attribute_in}
-use Rattle.rb_urdf.specs.Numbers.{zero_interval, one_interval, zeros, first_axis, number_or, three_or, pose_of}
+use Rattle.rb_urdf.specs.Numbers.{zeros, first_axis, number_or, three_or, pose_of}
 use Rattle.rb_urdf.specs.Names.{name_after}
 use Rattle.rb_tags.specs.Names.{number_of_name}
 use Rattle.rb_result.specs.Steps.{◌>>=◌, placed}

@@ -1,13 +1,13 @@
 -- The links of a robot.
 use Rattle.std.specs.Prelude.{ℕ, if◌then◌else◌, List, [], ◌∷◌, ◌++◌, codes, pos, int_lt, Option, Result, Ok, Err}
-use Rattle.rb_num.specs.Interval.{Interval}
+use Rattle.rb_num.specs.Interval, zero_interval.{Interval, zero_interval}
 use Rattle.rb_urdf.specs.declared.robot.UrdfLink.{UrdfLink}
 use Rattle.rb_urdf.specs.declared.faults.UrdfFault.{UrdfFault}
 use Rattle.rb_urdf.specs.declared.faults.UrdfFaultKind.{UrdfFaultKind}
 use Rattle.rb_urdf.specs.declared.faults.UrdfFaultKind.TheVariants.{NegativeMass}
 use Rattle.rb_urdf.specs.declared.link.Inertial.{Inertial}
 use Rattle.rb_tags.specs.Elements.{Element, child, child_in}
-use Rattle.rb_urdf.specs.Numbers.{zero_interval, number_or, pose_of}
+use Rattle.rb_urdf.specs.Numbers.{number_or, pose_of}
 use Rattle.rb_urdf.specs.Names.{name_after}
 use Rattle.rb_result.specs.Steps.{◌>>=◌, placed}
 use Rattle.rb_urdf.specs.Faults.{fault_at}

@@ -1,6 +1,6 @@
 -- The numbers of attributes.
-use Rattle.std.specs.Prelude.{ℕ, List, [], ◌∷◌, codes, pos, Option, Some, None, Result, Ok}
-use Rattle.rb_num.specs.Interval.{Interval, interval, grid}
+use Rattle.std.specs.Prelude.{ℕ, List, [], ◌∷◌, codes, Option, Some, None, Result, Ok}
+use Rattle.rb_num.specs.Interval.{Interval, zero_interval, one_interval}
 use Rattle.rb_text.specs.Bracket.{bracket_of}
 use Rattle.rb_text.specs.declared.bracket.TextFault.{TextFault}
 use Rattle.rb_urdf.specs.declared.faults.UrdfFaultKind.{UrdfFaultKind}
@@ -9,12 +9,6 @@ use Rattle.rb_urdf.specs.declared.numbers.Pose.{Pose}
 use Rattle.rb_tags.specs.Elements.{Element, attribute_in}
 use Rattle.rb_result.specs.Steps.{◌>>=◌, told_as}
 use Rattle.rb_text.specs.Three.{three_of}
-
-abbrev pub zero_interval : Interval
-zero_interval = interval (pos 0) (pos 0)
-
-abbrev pub one_interval : Interval
-one_interval = interval (pos grid) (pos grid)
 
 -- 0 0 0
 abbrev pub zeros : List Interval

@@ -1,7 +1,7 @@
 -- Which robot a list of tags describes, in the words of the format.
 use Rattle.std.specs.Prelude.{◌≡◌, ◌≢◌, ℕ, List, [], ◌∷◌, ◌++◌, slice_get, codes, pos, ◌≤ℤ◌, Option, None, Some, Ok}
 use Rattle.std.specs.List.{AllByRecursion, AllZip}
-use Rattle.rb_num.specs.Interval.{Interval}
+use Rattle.rb_num.specs.Interval, zero_interval, one_interval.{Interval, zero_interval, one_interval}
 use Rattle.rb_text.specs.Bracket.{bracket_of}
 use Rattle.rb_tags.specs.declared.tag.Tag.{Tag}
 use Rattle.rb_urdf.specs.declared.robot.UrdfKind.{UrdfKind}
@@ -11,7 +11,7 @@ use Rattle.rb_urdf.specs.declared.robot.UrdfMimic.{UrdfMimic}
 use Rattle.rb_urdf.specs.declared.robot.UrdfJoint.{UrdfJoint}
 use Rattle.rb_urdf.specs.Robot.{Robot, plane_axis, FollowsWell, names_of_links, names_of_joints, AreDifferent}
 use Rattle.rb_tags.specs.Elements.{Element, element_of, elements, child, child_in, attribute, attribute_in}
-use Rattle.rb_urdf.specs.Numbers.{zero_interval, one_interval, zeros, first_axis}
+use Rattle.rb_urdf.specs.Numbers.{zeros, first_axis}
 use Rattle.rb_text.specs.Three.{IsThree}
 
 -- the value that a text says, or the default where there is none
