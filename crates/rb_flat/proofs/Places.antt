@@ -6,6 +6,7 @@ use Rattle.rb_frac.specs.Frac as F
 use Rattle.rb_frac.specs.Frac.{Frac, Same, Le, fracs}
 use Rattle.rb_frac.specs.Tables.{Table, Vectors, Tables, transpose, table_times, table_product, table_sum, table_scaled}
 use Rattle.rb_frac.specs.Spatial.{SineCosine, Frame, Place, Places, coordinate}
+use Rattle.rb_frac.proofs.Below.{below_six}
 use Rattle.rb_frac.proofs.Reduce.{same_refl, same_trans}
 use Rattle.rb_frac.proofs.FracLaws.{antisym_le, le_same}
 use Rattle.rb_frac.proofs.Ring.{Expr, expr, var, enul, eone, eval}
@@ -196,24 +197,14 @@ planar_is_free c = record {
   column_turn = refl;
 }
 
--- each of six
-pub six : (P : ℕ → Type 0) → P 0 → P 1 → P 2 → P 3 → P 4 → P 5 → (k : ℕ) → k < 6 → P k
-six P a b c d e f zero l = a
-six P a b c d e f (suc zero) l = b
-six P a b c d e f (suc (suc zero)) l = c
-six P a b c d e f (suc (suc (suc zero))) l = d
-six P a b c d e f (suc (suc (suc (suc zero)))) l = e
-six P a b c d e f (suc (suc (suc (suc (suc zero))))) l = f
-six P a b c d e f (suc (suc (suc (suc (suc (suc k)))))) l = absurd (omega arith)
-
 pub free_moves_all : FreeMovesAll
 unfolding chosen_column J.joint_column coordinate
 free_moves_all c j k l m =
-    six (λ i. coordinate (chosen_column Free c k) i ≡ (if i == k then fracs.one else fracs.nul))
-    (six (λ i. coordinate (chosen_column Free c i) 0 ≡ (if 0 == i then fracs.one else fracs.nul)) refl refl refl refl refl refl k m)
-    (six (λ i. coordinate (chosen_column Free c i) 1 ≡ (if 1 == i then fracs.one else fracs.nul)) refl refl refl refl refl refl k m)
-    (six (λ i. coordinate (chosen_column Free c i) 2 ≡ (if 2 == i then fracs.one else fracs.nul)) refl refl refl refl refl refl k m)
-    (six (λ i. coordinate (chosen_column Free c i) 3 ≡ (if 3 == i then fracs.one else fracs.nul)) refl refl refl refl refl refl k m)
-    (six (λ i. coordinate (chosen_column Free c i) 4 ≡ (if 4 == i then fracs.one else fracs.nul)) refl refl refl refl refl refl k m)
-    (six (λ i. coordinate (chosen_column Free c i) 5 ≡ (if 5 == i then fracs.one else fracs.nul)) refl refl refl refl refl refl k m)
+    below_six (λ i. coordinate (chosen_column Free c k) i ≡ (if i == k then fracs.one else fracs.nul))
+    (below_six (λ i. coordinate (chosen_column Free c i) 0 ≡ (if 0 == i then fracs.one else fracs.nul)) refl refl refl refl refl refl k m)
+    (below_six (λ i. coordinate (chosen_column Free c i) 1 ≡ (if 1 == i then fracs.one else fracs.nul)) refl refl refl refl refl refl k m)
+    (below_six (λ i. coordinate (chosen_column Free c i) 2 ≡ (if 2 == i then fracs.one else fracs.nul)) refl refl refl refl refl refl k m)
+    (below_six (λ i. coordinate (chosen_column Free c i) 3 ≡ (if 3 == i then fracs.one else fracs.nul)) refl refl refl refl refl refl k m)
+    (below_six (λ i. coordinate (chosen_column Free c i) 4 ≡ (if 4 == i then fracs.one else fracs.nul)) refl refl refl refl refl refl k m)
+    (below_six (λ i. coordinate (chosen_column Free c i) 5 ≡ (if 5 == i then fracs.one else fracs.nul)) refl refl refl refl refl refl k m)
     j l

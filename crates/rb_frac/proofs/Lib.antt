@@ -13,3 +13,4 @@ pub mod Interval
 pub mod Hom
 pub mod FracLaws
 pub mod Variables
+pub mod Below

@@ -1,5 +1,5 @@
 -- The entries of an inertia, one by one.
-use Rattle.std.proofs.Common.{◌≡◌, ℕ, zero, suc, ◌<◌, ◌≤◌, [], refl, arith}
+use Rattle.std.proofs.Common.{◌≡◌, ℕ, ◌<◌, ◌≤◌, [], refl, arith}
 use Rattle.rb_frac.specs.Ops.{sum as sum_below}
 use Rattle.rb_frac.specs.Pairs.{dot}
 use Rattle.rb_frac.specs.Frac as F
@@ -11,19 +11,10 @@ use Rattle.rb_num.proofs.Bridges.{expressions}
 use Rattle.rb_frac.specs.Spatial.{coordinate, entry}
 use Rattle.rb_spatial.specs.Inertias.{mul_both, times, less_vector, less_table, less_symmetric, less_outer}
 use Rattle.rb_spatial.specs.Laws.{EntryIsSymmetric, TimesIsRows, LessOuterEntry}
+use Rattle.rb_frac.proofs.Below.{below_six}
 use Rattle.rb_frac.proofs.Variables.{spatial, inertia, of_spatial, of_inertia, at}
 
--- what holds at each of the six holds below six
-pub below_six : (P : ℕ → Type 0) → P 0 → P 1 → P 2 → P 3 → P 4 → P 5 → (k : ℕ) → k < 6 → P k
-below_six P a b c d e f zero h = a
-below_six P a b c d e f (suc zero) h = b
-below_six P a b c d e f (suc (suc zero)) h = c
-below_six P a b c d e f (suc (suc (suc zero))) h = d
-below_six P a b c d e f (suc (suc (suc (suc zero)))) h = e
-below_six P a b c d e f (suc (suc (suc (suc (suc zero))))) h = f
-below_six P a b c d e f (suc (suc (suc (suc (suc (suc k)))))) h = absurd (omega arith)
-
--- and at each pair in order
+-- what holds at each pair in order below six
 pub below_six_ordered : (P : ℕ → ℕ → Type 0)
     → (P 0 0 × P 0 1 × P 0 2 × P 0 3 × P 0 4 × P 0 5)
     → (P 1 1 × P 1 2 × P 1 3 × P 1 4 × P 1 5)

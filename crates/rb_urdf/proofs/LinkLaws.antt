@@ -4,7 +4,7 @@ use Rattle.std.specs.Prelude.{codes, ℤ, pos, ◌≤ℤ◌, int_lt, bytes_eq}
 use Rattle.std.specs.List.{AllZip, list_any}
 use Rattle.std.proofs.lemmas.List.{append-nil, map-append}
 use Rattle.std.proofs.lemmas.Int.{ints}
-use Rattle.rb_num.specs.Interval, zero_interval.{Interval, zero_interval}
+use Rattle.rb_num.specs.Interval.{Interval, zero_interval}
 use Rattle.rb_urdf.specs.declared.robot.UrdfLink.{UrdfLink}
 use Rattle.rb_urdf.specs.declared.faults.UrdfFaultKind.{UrdfFaultKind}
 use Rattle.rb_urdf.specs.declared.faults.UrdfFaultKind.TheVariants.{NegativeMass}

@@ -5,7 +5,7 @@ use Rattle.std.specs.List.{AllZip, position_or_len}
 use Rattle.std.proofs.lemmas.Slice.Eq.{bytes_eq-Decides}
 use Rattle.std.proofs.lemmas.List.Sums.{prefix_len_passes}
 use Rattle.std.proofs.lemmas.Bool.Decides.{nat_tests}
-use Rattle.rb_num.specs.Interval, zero_interval, one_interval.{Interval, zero_interval, one_interval}
+use Rattle.rb_num.specs.Interval.{Interval, zero_interval, one_interval}
 use Rattle.rb_urdf.specs.declared.robot.UrdfKind.{UrdfKind}
 use Rattle.rb_urdf.specs.declared.robot.UrdfKind.TheVariants.{Fixed, Revolute, Prismatic, Continuous, Planar, Floating}
 use Rattle.rb_urdf.specs.declared.robot.UrdfLink.{UrdfLink}

@@ -4,7 +4,7 @@ use Rattle.std.specs.Prelude.{codes, pos, int_lt, ◌<ℤ◌, bytes_eq}
 use Rattle.std.specs.List.{AllZip, list_any}
 use Rattle.std.proofs.lemmas.Int.{ints}
 use Rattle.std.proofs.lemmas.Slice.Eq.{bytes_eq-Decides}
-use Rattle.rb_num.specs.Interval, zero_interval.{Interval, zero_interval}
+use Rattle.rb_num.specs.Interval.{Interval, zero_interval}
 use Rattle.rb_text.specs.Bracket.{bracket_of}
 use Rattle.rb_urdf.specs.declared.robot.UrdfLink.{UrdfLink}
 use Rattle.rb_urdf.specs.declared.faults.UrdfFaultKind.{UrdfFaultKind}

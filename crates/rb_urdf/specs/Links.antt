@@ -1,6 +1,6 @@
 -- The links of a robot.
 use Rattle.std.specs.Prelude.{ℕ, if◌then◌else◌, List, [], ◌∷◌, ◌++◌, codes, pos, int_lt, Option, Result, Ok, Err}
-use Rattle.rb_num.specs.Interval, zero_interval.{Interval, zero_interval}
+use Rattle.rb_num.specs.Interval.{Interval, zero_interval}
 use Rattle.rb_urdf.specs.declared.robot.UrdfLink.{UrdfLink}
 use Rattle.rb_urdf.specs.declared.faults.UrdfFault.{UrdfFault}
 use Rattle.rb_urdf.specs.declared.faults.UrdfFaultKind.{UrdfFaultKind}

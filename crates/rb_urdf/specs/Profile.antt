@@ -1,7 +1,7 @@
 -- Which robot a list of tags describes, in the words of the format.
 use Rattle.std.specs.Prelude.{◌≡◌, ◌≢◌, ℕ, List, [], ◌∷◌, ◌++◌, slice_get, codes, pos, ◌≤ℤ◌, Option, None, Some, Ok}
 use Rattle.std.specs.List.{AllByRecursion, AllZip}
-use Rattle.rb_num.specs.Interval, zero_interval, one_interval.{Interval, zero_interval, one_interval}
+use Rattle.rb_num.specs.Interval.{Interval, zero_interval, one_interval}
 use Rattle.rb_text.specs.Bracket.{bracket_of}
 use Rattle.rb_tags.specs.declared.tag.Tag.{Tag}
 use Rattle.rb_urdf.specs.declared.robot.UrdfKind.{UrdfKind}

@@ -1,7 +1,7 @@
 -- What is wrong with tags that no robot has, in the words of the format.
 use Rattle.std.specs.Prelude.{◌≡◌, ◌≢◌, ◌⊎◌, ℕ, List, [], ◌∷◌, ◌++◌, slice_get, codes, pos, ◌<ℤ◌, Option, None, Some}
 use Rattle.std.specs.List.{AllByRecursion}
-use Rattle.rb_num.specs.Interval, zero_interval, one_interval.{Interval, zero_interval, one_interval}
+use Rattle.rb_num.specs.Interval.{Interval, zero_interval, one_interval}
 use Rattle.rb_tags.specs.declared.tag.Tag.{Tag}
 use Rattle.rb_urdf.specs.declared.robot.UrdfKind.{UrdfKind}
 use Rattle.rb_urdf.specs.declared.robot.UrdfKind.TheVariants.{Fixed, Revolute, Prismatic, Planar, Floating}
