@@ -3,12 +3,12 @@ use Rattle.std.proofs.Common.{ℕ, zero, suc, ◌<◌, [], ◌∷◌, refl, arit
 use Rattle.rb_frac.specs.Ops.{V3, signs, vadd, vscale, vdot}
 use Rattle.rb_frac.specs.Frac.{Frac}
 use Rattle.rb_frac.specs.Tables.{Table, cross_table, table_product, table_sum, table_scaled}
+use Rattle.rb_frac.proofs.Below.{below_six}
 use Rattle.rb_frac.proofs.Ring.{Expr, expr, var}
 use Rattle.rb_frac.proofs.Variables.{vector, of_vector, vectors, tables}
 use Rattle.rb_flat.specs.Turns.{about_axis, about_z, about_quaternion}
 use Rattle.rb_flat.specs.Joint.{Kind, Fixed, Revolute, Continuous, Prismatic, Planar, Free, joint_column, joint_turn, joint_shift}
 use Rattle.rb_flat.specs.Rates.{moving, still_vector, started, started_angle, started_speed, vector_rate, table_rate, ColumnIsRate, ColumnsAreRates}
-use Rattle.rb_flat.proofs.Places.{six}
 
 -- ---- over expressions: the variables are the rate and the axis
 abbrev turn_rate : Kind → ℕ → Table Expr
@@ -137,4 +137,4 @@ columns_are_rates Prismatic a zero h m = prismatic a h
 columns_are_rates Prismatic a (suc k) h m = absurd (omega arith)
 columns_are_rates Planar a k h m = planar a k h m
 columns_are_rates Free a k h m =
-    six (λ j. ColumnIsRate Free a j h) (free_0 a h) (free_1 a h) (free_2 a h) (free_3 a h) (free_4 a h) (free_5 a h) k m
+    below_six (λ j. ColumnIsRate Free a j h) (free_0 a h) (free_1 a h) (free_2 a h) (free_3 a h) (free_4 a h) (free_5 a h) k m
