@@ -5,6 +5,7 @@ pub mod Between
 pub mod Closes
 pub mod Closing
 pub mod Complete
+pub mod Different
 pub mod Distinct
 pub mod Faulty
 pub mod Folds

@@ -2,7 +2,7 @@
 -- file has which fault, with `BadMarks` for marks that do not fit, and `Kept` what each list of tags keeps. `Elements`, `Words` and `Names`
 -- are what the calls on tags answer: child elements and attributes, the words of a text, the numbers of names.
 -- `Tags` is how a file is read step by step, with `Seen` for its marks, `Marks` inside a mark, `References` inside a value and `Bytes` inside
--- a run of bytes. It is scaffolding, since the law of `laws.rt` says that it is the grammar. `Faults` has the faults of kinds at places, and
+-- a run of bytes. It is scaffolding, since `Laws` says that it is the grammar. `Faults` has the faults of kinds at places, and
 -- `Views` what contracts see of the reader.
 pub mod BadMarks
 pub mod Bytes
@@ -10,6 +10,7 @@ pub mod Elements
 pub mod Faults
 pub mod Grammar
 pub mod Kept
+pub mod Laws
 pub mod Marks
 pub mod Names
 pub mod References

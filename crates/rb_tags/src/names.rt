@@ -1,7 +1,7 @@
 // The names of a tag's attributes, and lists of different names.
 ghost use Rattle.std.specs.Prelude.{◌≡◌, ◌≤◌, ◌^◌, ◌++◌, ◌∷◌, [], not, if◌then◌else◌, bytes_eq, length, IfOk, IfErr};
 ghost use Rattle.std.specs.List.{list_any};
-ghost use Rattle.rb_tags.specs.Names.{number_of_name};
+ghost use Rattle.rb_tags.specs.Names.{AreDifferent, number_of_name};
 ghost use Rattle.rb_tags.specs.Seen.{are_distinct};
 
 use crate::tag::Attr;
@@ -33,10 +33,13 @@ pub struct Names<'a> {
 
 impl<'a> Model for Names<'a> {
     ghost use Rattle.std.specs.Prelude.{List, ℕ, map};
+    ghost use Rattle.rb_tags.specs.Names.{AreDifferent};
 
     ghost Value = { List (List ℕ) };
 
     ghost view = { λ n. map (λ name. name.now) n.names.keys };
+
+    ghost invariant = { λ n. AreDifferent (map (λ name. name.now) n.names.keys) };
 }
 
 impl<'a> Names<'a> {
@@ -62,7 +65,8 @@ impl<'a> Names<'a> {
     /// The number of a name, from 0.
     pub fn number_of(&self, name: &str) -> Option<u32>
         requires { length self.now ≤ 2 ^ 32 }
-        ensures { result ≡ number_of_name self.now name.now }
+        ensures number { result ≡ number_of_name self.now name.now }
+        ensures kept { AreDifferent self.now }
     {
         match self.names.get_index_of(name) {
             Some(number) => Some(number as u32),

@@ -14,7 +14,7 @@ use Rattle.rb_urdf.specs.declared.robot.UrdfJoint.{UrdfJoint}
 use Rattle.rb_urdf.specs.declared.joint.Follow.{Follow}
 use Rattle.rb_urdf.specs.declared.joint.Draft.{Draft}
 use Rattle.rb_urdf.specs.declared.mimic.Head.{Head}
-use Rattle.rb_urdf.specs.Robot.{Robot, HasMaster, FollowsWell, AreDifferent, names_of_links, names_of_joints}
+use Rattle.rb_urdf.specs.Robot.{Robot, HasMaster, FollowsWell, names_of_links, names_of_joints}
 use Rattle.rb_tags.specs.Elements.{Element, element_of, elements, child, attribute}
 use Rattle.rb_urdf.specs.Joints.{names_of_drafts}
 use Rattle.rb_urdf.specs.Mimics.{may_lead, following_kind, head_of, mimic_of, joint_with, joint_of, joints_after, joints_of}
@@ -25,6 +25,7 @@ use Rattle.rb_urdf.proofs.LinkLaws.{links-read}
 use Rattle.rb_urdf.proofs.DraftLaws.{IsDraft, SaysFollow, drafts-read}
 use Rattle.rb_urdf.proofs.MimicLaws.{IsSettled, kind-alone, kind-following}
 use Rattle.rb_urdf.proofs.Zips.{beside_left, same-maps, each-pair, slice_get-to_map}
+use Rattle.rb_tags.specs.Names.{AreDifferent}
 
 -- the mimic of a joint, by the name of the joint that it follows
 abbrev follow_for : Option Element → Option UrdfMimic → Option Follow

@@ -15,20 +15,21 @@ use Rattle.rb_urdf.specs.declared.faults.UrdfFaultKind.TheVariants.{BadType, NoP
 use Rattle.rb_urdf.specs.declared.joint.Ends.{Ends}
 use Rattle.rb_urdf.specs.declared.joint.Follow.{Follow}
 use Rattle.rb_urdf.specs.declared.joint.Draft.{Draft}
-use Rattle.rb_urdf.specs.Robot.{plane_axis, names_of_links, AreDifferent}
+use Rattle.rb_urdf.specs.Robot.{plane_axis, names_of_links}
 use Rattle.rb_tags.specs.Elements.{Element, child, attribute, attribute_in}
 use Rattle.rb_urdf.specs.Numbers.{zeros, first_axis, number_or, pose_of}
 use Rattle.rb_urdf.specs.Names.{name_after}
 use Rattle.rb_urdf.specs.Joints.{kind_named, kind_of, end_of, ends_of, axis_of, follow_in, follow_of, is_planar, is_exactly, is_plane_axis, unmoved, draft_of, names_of_drafts, drafts_after}
 use Rattle.rb_urdf.specs.Profile.{SaysNumber, SaysPose, HasName, NamesLink, SaysAxis, type_name}
 use Rattle.rb_urdf.proofs.NumberLaws.{number_or-says, number_or-read, three_or-says, three_or-read, pose-says, pose-read}
-use Rattle.rb_urdf.proofs.NameLaws.{name_after-says, name_after-read, differ-push, differ-new, number-says, number-read}
-use Rattle.rb_tags.specs.Names.{number_of_name}
+use Rattle.rb_urdf.proofs.NameLaws.{name_after-says, name_after-read, differ-new, number-says, number-read}
+use Rattle.rb_tags.specs.Names.{number_of_name, AreDifferent}
 use Rattle.std.specs.Option.{ok_or}
 use Rattle.rb_result.proofs.Results.{then-ok, found-ok, unless-ok, placed-ok}
 use Rattle.std.proofs.lemmas.Bool.{and_parts}
 use Rattle.rb_result.specs.Steps.{placed}
 use Rattle.rb_urdf.specs.Faults.{fault_at}
+use Rattle.rb_tags.proofs.Different.{differ-push}
 
 -- types
 

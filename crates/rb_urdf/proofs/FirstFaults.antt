@@ -19,7 +19,6 @@ use Rattle.rb_urdf.specs.Urdf.{is_xacro, plain_but, plain_tags, robot_with, robo
 use Rattle.rb_urdf.specs.Profile.{IsLink, IsXacro}
 use Rattle.rb_urdf.specs.Refusals.{At, HasXacro, link_elements, joint_elements, HasFaultAt, HasFault}
 use Rattle.rb_tags.proofs.Folds.{IsFold}
-use Rattle.rb_urdf.proofs.NameLaws.{differ-none}
 use Rattle.rb_urdf.proofs.LinkLaws.{links-say, link-says}
 use Rattle.rb_urdf.proofs.DraftLaws.{IsDraft, drafts-say, draft-says}
 use Rattle.rb_urdf.proofs.SoundLaws.{plain}
@@ -29,6 +28,7 @@ use Rattle.rb_result.proofs.Results.{then-err, placed-ok}
 use Rattle.rb_urdf.proofs.Placed.{placed-kind}
 use Rattle.rb_result.specs.Steps.{placed}
 use Rattle.rb_urdf.specs.Robot.{names_of_links}
+use Rattle.rb_tags.proofs.Different.{differ-none}
 
 push : {A B : Type 0} (R : A → B → Type 0) (xs : List A) (ys : List B) (x : A) (y : B) → AllZip R xs ys → R x y → AllZip R (xs ++ x ∷ []) (ys ++ y ∷ [])
 push R [] [] x y each r = (r, tt)

@@ -15,11 +15,13 @@ use Rattle.rb_urdf.specs.Names.{name_after}
 use Rattle.rb_urdf.specs.Links.{six_of, inertial_of, link_with, link_of, links_after}
 use Rattle.rb_urdf.specs.Profile.{SaysSix, IsInertial, IsLink}
 use Rattle.rb_urdf.proofs.NumberLaws.{number_or-says, number_or-read, pose-says, pose-read}
-use Rattle.rb_urdf.proofs.NameLaws.{name_after-says, name_after-read, differ-push, differ-new}
+use Rattle.rb_urdf.proofs.NameLaws.{name_after-says, name_after-read, differ-new}
 use Rattle.rb_result.proofs.Results.{then-ok, unless-ok, placed-ok}
 use Rattle.rb_result.specs.Steps.{placed}
 use Rattle.rb_urdf.specs.Faults.{fault_at}
-use Rattle.rb_urdf.specs.Robot.{names_of_links, AreDifferent}
+use Rattle.rb_urdf.specs.Robot.{names_of_links}
+use Rattle.rb_tags.specs.Names.{AreDifferent}
+use Rattle.rb_tags.proofs.Different.{differ-push}
 
 not_below : (z : ℤ) → int_lt z (pos 0) ≡ false → pos 0 ≤ℤ z
 not_below z h = grind (arith, ints)

@@ -1,8 +1,7 @@
 -- Names that are given, and that differ.
-use Rattle.std.proofs.Common.{eqb, ne_eqb, Option, None, ◌≡◌, ◌≢◌, ℕ, zero, suc, ◌+◌, ◌<◌, inl, inr, Bool, true, false, ◌||◌, List, [], ◌∷◌, ◌++◌, length, get_or, slice_get, Some, Ok, refl, sym, ap, ◌∙◌, subst, arith, true≢false}
+use Rattle.std.proofs.Common.{eqb, ne_eqb, Option, None, ◌≡◌, ◌≢◌, ℕ, ◌+◌, ◌<◌, Bool, true, false, List, [], ◌∷◌, ◌++◌, length, get_or, slice_get, Some, Ok, refl, sym, ap, ◌∙◌, subst, arith}
 use Rattle.std.specs.Prelude.{bytes_eq, codes, option_and_then}
 use Rattle.std.specs.List.{list_any, position_or_len}
-use Rattle.std.proofs.lemmas.Bool.{cases_lt}
 use Rattle.std.proofs.lemmas.Bool.Decides.{nat_tests}
 use Rattle.std.proofs.lemmas.Slice.Eq.{bytes_eq-Decides}
 use Rattle.std.proofs.lemmas.List.{length-append, get_or_append_left}
@@ -15,9 +14,8 @@ use Rattle.rb_urdf.specs.declared.faults.UrdfFaultKind.TheVariants.{NoName, Name
 use Rattle.rb_tags.specs.Elements.{Element, attribute, given, filled}
 use Rattle.rb_urdf.specs.Names.{new_name, name_of, name_after}
 use Rattle.rb_urdf.specs.Profile.{HasName}
-use Rattle.rb_tags.specs.Names.{number_of_name}
+use Rattle.rb_tags.specs.Names.{number_of_name, AreDifferent}
 use Rattle.rb_result.proofs.Results.{then-ok, found-ok, unless-ok}
-use Rattle.rb_urdf.specs.Robot.{AreDifferent}
 
 filled-says : (text : Option (List ℕ)) (said : List ℕ) → option_and_then filled text ≡ Some said → (text ≡ Some said) × (said ≢ [])
 filled-says None said h = absurd cc
@@ -58,36 +56,6 @@ name_after-says names element name h =
 pub name_after-read : (names : List (List ℕ)) (element : Element) (name : List ℕ) → HasName element name → list_any (bytes_eq name) names ≡ false → name_after names element ≡ Ok name
 unfolding name_after new_name
 name_after-read names element name h new = rw (name-read element name h, new) refl
-
-none_at : (p : List ℕ → Bool) (xs : List (List ℕ)) (i : ℕ) (d : List ℕ) → list_any p xs ≡ false → i < length xs → p (get_or xs i d) ≡ false
-none_at p [] i d h within = absurd (omega arith)
-none_at p (x ∷ xs) zero d h within = by (p x) (list_any p xs) h
-  where
-    by : (a b : Bool) → (a || b) ≡ false → a ≡ false
-    by false b h = refl
-    by true b h = absurd cc
-none_at p (x ∷ xs) (suc i) d h within = none_at p xs i d (by (p x) (list_any p xs) h) (omega arith)
-  where
-    by : (a b : Bool) → (a || b) ≡ false → b ≡ false
-    by false b h = h
-    by true b h = absurd cc
-
--- a new name behind names that differ
-pub differ-push : (names : List (List ℕ)) (name : List ℕ) → AreDifferent names → list_any (bytes_eq name) names ≡ false → AreDifferent (names ++ name ∷ [])
-differ-push names name differ new i j d before within =
-    let size : length (names ++ name ∷ []) ≡ length names + 1 = length-append names (name ∷ []) in
-    elim (cases_lt j (length names)) [
-      | inl inside ↦ λ same. differ i j d before inside (sym (get_or_append_left names (name ∷ []) d i (omega arith)) ∙ same ∙ get_or_append_left names (name ∷ []) d j inside)
-      | inr last ↦ λ same.
-          let at : j ≡ length names = omega arith in
-          let name_at : get_or (names ++ name ∷ []) j d ≡ name = ap (λ k. get_or (names ++ name ∷ []) k d) at ∙ get_or-append_seam names name [] d in
-          let other : get_or (names ++ name ∷ []) i d ≡ get_or names i d = get_or_append_left names (name ∷ []) d i (omega arith) in
-          let equal : name ≡ get_or names i d = sym name_at ∙ sym same ∙ other in
-          true≢false (sym ((bytes_eq-Decides name (get_or names i d)).1 equal) ∙ none_at (bytes_eq name) names i d new (omega arith))
-    ]
-
-pub differ-none : AreDifferent []
-differ-none i j d before within = absurd (omega arith)
 
 -- the number of a name says where it stands
 pub number-says : (names : List (List ℕ)) (name : List ℕ) (n : ℕ) → number_of_name names name ≡ Some n → slice_get names n ≡ Some name

@@ -17,7 +17,7 @@ use Rattle.rb_urdf.specs.declared.faults.UrdfFault.{UrdfFault}
 use Rattle.rb_urdf.specs.declared.faults.UrdfFaultKind.TheVariants.{NoRobot}
 use Rattle.rb_urdf.specs.declared.joint.Draft.{Draft}
 use Rattle.rb_urdf.specs.Faults.{fault_at}
-use Rattle.rb_urdf.specs.Robot.{Robot, plane_axis, IsLinkKept, IsJointKept, IsRobot, names_of_links, AreDifferent, names_of_joints}
+use Rattle.rb_urdf.specs.Robot.{Robot, plane_axis, IsLinkKept, IsJointKept, IsRobot, names_of_links, names_of_joints}
 use Rattle.rb_tags.specs.Elements.{Element, element_of, is_child, elements, child}
 use Rattle.rb_urdf.specs.Names.{name_of}
 use Rattle.rb_urdf.specs.Links.{links_after}
@@ -25,7 +25,7 @@ use Rattle.rb_urdf.specs.Joints.{drafts_after, names_of_drafts}
 use Rattle.rb_urdf.specs.Mimics.{head_of, joint_of, joints_of}
 use Rattle.rb_urdf.specs.Urdf.{is_xacro, plain_but, plain_tags, robot_with, robot_of, urdf_of}
 use Rattle.rb_urdf.specs.Profile.{IsLink, IsJoint, NamesLink, SaysAxis, kind_of_type, IsXacro, IsUrdf}
-use Rattle.rb_urdf.proofs.NameLaws.{name-says, differ-none}
+use Rattle.rb_urdf.proofs.NameLaws.{name-says}
 use Rattle.rb_urdf.proofs.LinkLaws.{links-say}
 use Rattle.rb_urdf.proofs.DraftLaws.{IsDraft, drafts-say}
 use Rattle.rb_urdf.proofs.MimicLaws.{IsSettled, joints-say, joint-says, names-kept}
@@ -33,6 +33,8 @@ use Rattle.rb_urdf.proofs.Zips.{each-right, each-map, chained}
 use Rattle.rb_result.proofs.Results.{then-ok, placed-ok}
 use Rattle.rb_result.specs.Steps.{placed}
 use Rattle.rb_tags.specs.declared.tag.TheConstants.{MAX_TAGS}
+use Rattle.rb_tags.specs.Names.{AreDifferent}
+use Rattle.rb_tags.proofs.Different.{differ-none}
 
 -- the links and the joints that were read
 pub record PartsRead (tags : List Tag) (links : List UrdfLink) (joints : List UrdfJoint) : Type 0 where

@@ -1,9 +1,10 @@
 -- Read `Profile` first: which robot a list of tags describes, in the words of the format. `Refusals` says where tags have which fault, and
 -- `Robot` what contracts see of a robot and what each robot keeps.
 -- `Urdf` is how tags are read step by step, with `Links`, `Joints` and `Mimics` for their parts, and `Names` and `Numbers` for attributes. It is
--- scaffolding, since the law of `laws.rt` says that it is the profile. `Faults` has the faults of kinds at places.
+-- scaffolding, since `Laws` says that it is the profile. `Faults` has the faults of kinds at places.
 pub mod Faults
 pub mod Joints
+pub mod Laws
 pub mod Links
 pub mod Mimics
 pub mod Names

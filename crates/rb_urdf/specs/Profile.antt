@@ -9,10 +9,11 @@ use Rattle.rb_urdf.specs.declared.robot.UrdfKind.TheVariants.{Fixed, Revolute, P
 use Rattle.rb_urdf.specs.declared.robot.UrdfLink.{UrdfLink}
 use Rattle.rb_urdf.specs.declared.robot.UrdfMimic.{UrdfMimic}
 use Rattle.rb_urdf.specs.declared.robot.UrdfJoint.{UrdfJoint}
-use Rattle.rb_urdf.specs.Robot.{Robot, plane_axis, FollowsWell, names_of_links, names_of_joints, AreDifferent}
+use Rattle.rb_urdf.specs.Robot.{Robot, plane_axis, FollowsWell, names_of_links, names_of_joints}
 use Rattle.rb_tags.specs.Elements.{Element, element_of, elements, child, child_in, attribute, attribute_in}
 use Rattle.rb_urdf.specs.Numbers.{zeros, first_axis}
 use Rattle.rb_text.specs.Three.{IsThree}
+use Rattle.rb_tags.specs.Names.{AreDifferent}
 
 -- the value that a text says, or the default where there is none
 abbrev pub SaidOr : {A : Type 0} → A → (List ℕ → A → Type 0) → Option (List ℕ) → A → Type 0

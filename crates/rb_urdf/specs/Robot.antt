@@ -1,5 +1,5 @@
 -- What contracts see of a robot, and what each robot keeps.
-use Rattle.std.specs.Prelude.{◌≡◌, ◌≢◌, ◌⊎◌, ℕ, ◌<◌, ◌≤◌, List, [], ◌∷◌, length, map, AllPairs, pos, ◌≤ℤ◌, slice_get, Option, None, Some}
+use Rattle.std.specs.Prelude.{◌≡◌, ◌≢◌, ◌⊎◌, ℕ, ◌<◌, ◌≤◌, List, [], ◌∷◌, length, map, pos, ◌≤ℤ◌, slice_get, Option, None, Some}
 use Rattle.std.specs.List.{AllByRecursion}
 use Rattle.rb_num.specs.Interval.{Interval, interval, grid}
 use Rattle.rb_urdf.specs.declared.robot.UrdfKind.{UrdfKind}
@@ -8,6 +8,7 @@ use Rattle.rb_urdf.specs.declared.robot.UrdfLink.{UrdfLink}
 use Rattle.rb_urdf.specs.declared.robot.UrdfMimic.{UrdfMimic}
 use Rattle.rb_urdf.specs.declared.robot.UrdfJoint.{UrdfJoint}
 use Rattle.rb_tags.specs.declared.tag.TheConstants.{MAX_TAGS}
+use Rattle.rb_tags.specs.Names.{AreDifferent}
 
 -- its name, the place of its element, its links and its joints in file order
 pub record Robot : Type 0 where
@@ -15,10 +16,6 @@ pub record Robot : Type 0 where
   pub place : ℕ
   pub links : List UrdfLink
   pub joints : List UrdfJoint
-
--- no two names are the same
-abbrev pub AreDifferent : List (List ℕ) → Type 0
-AreDifferent names = AllPairs (λ a b. a ≢ b) names
 
 -- names are given, and no two are the same
 pub record AreNames (names : List (List ℕ)) : Type 0 where
