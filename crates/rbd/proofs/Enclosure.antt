@@ -24,11 +24,11 @@ use Rattle.rbd.specs.Sweep.{sweep, upward, downward}
 use Rattle.rbd.specs.Work.{View, none, no_vector, blank_of}
 use Rattle.rb_num.specs.Arith.{intervals}
 use Rattle.rbd.specs.Dynamics.{world, axis_of, direction_at, joint_at, acceleration_rule, needed_rule, force_rule, torque_rule, down_step, up_step, torque_step, start_of, lasting, down_of, up_of, projected_of, dynamics_of, torques_of}
-use Rattle.rbd.proofs.Steps.{and_then_ok, ok_same}
 use Rattle.rbd.proofs.SweepLaws.{sweep_holds, sweep_down_holds}
 use Rattle.rbd.proofs.Buffers.{written_more, written_from}
 use Rattle.rbd.proofs.Related.{Vectors, acceleration_met, needed_force_met, joint_force_met, torque_met}
 use Rattle.rbd.proofs.SameNumbers.{lies_same, vectors_sym, vectors_trans, lies_vector, acceleration_is, acceleration_stays, needed_force_is, joint_force_is, torque_is}
+use Rattle.rb_result.proofs.Results.{then-ok, same_ok}
 
 unnamed : {A : Type 0} (name : Name) (r : Result A NumFault) (x : A) → named_as name r ≡ Ok x → r ≡ Ok x
 unnamed name (Ok y) x e = cc
@@ -115,11 +115,11 @@ module _ (chain : Links) (joints : List Interval) (choice : Choice) (s : Solutio
   down_next : (i : ℕ) (w t : View) → 1 ≤ i → i < bodies chain + 1 → ReachedDown i w → down_step chain joints i w ≡ Ok t → ReachedDown (i + 1) t
   unfolding down_step
   down_next i w t low high r e =
-      let h = and_then_ok (acceleration_rule chain joints i w) _ t e in
-      let k = and_then_ok (needed_rule chain i h.0) _ t h.2 in
+      let h = then-ok (acceleration_rule chain joints i w) _ t e in
+      let k = then-ok (needed_rule chain i h.0) _ t h.2 in
       let a : Vectors LiesIn (s.acceleration i) h.0 = acceleration_lies i w h.0 low (omega arith) (r.accelerations (i - 1) (omega arith)) h.1 in
       let b : Vectors LiesIn (s.needed i) k.0 = needed_lies i h.0 k.0 low (omega arith) a k.1 in
-      subst (λ (u : View). ReachedDown (i + 1) u) (ok_same _ _ k.2)
+      subst (λ (u : View). ReachedDown (i + 1) u) (same_ok _ _ k.2)
       (record {
         room = record {
           count = r.room.count;
@@ -199,8 +199,8 @@ module _ (chain : Links) (joints : List Interval) (choice : Choice) (s : Solutio
   up_next : (i : ℕ) (w t : View) → 1 ≤ i → i < bodies chain → ReachedUp (i + 1) w → up_step i w ≡ Ok t → ReachedUp i t
   unfolding up_step
   up_next i w t low high r e =
-      let h = and_then_ok (force_rule i w) _ t e in
-      subst (λ (u : View). ReachedUp i u) (ok_same _ _ h.2)
+      let h = then-ok (force_rule i w) _ t e in
+      subst (λ (u : View). ReachedUp i u) (same_ok _ _ h.2)
       (up_written i w h.0 (omega arith) r.room r.needed (λ k l le. r.forces k (omega arith) le) (force_lies i w h.0 low high r h.1))
 
   up_start : (w : View) → ReachedDown (bodies chain + 1) w → ReachedUp (bodies chain) (lasting w)
@@ -237,14 +237,14 @@ module _ (chain : Links) (joints : List Interval) (choice : Choice) (s : Solutio
   torque_next : (i : ℕ) (w t : View) → 2 ≤ i → i < bodies chain + 1 → ReachedTorques i w → torque_step chain i w ≡ Ok t → ReachedTorques (i + 1) t
   unfolding torque_step
   torque_next i w t low high r e =
-      let h = and_then_ok (torque_rule chain i w) _ t e in
+      let h = then-ok (torque_rule chain i w) _ t e in
       let here : LiesIn (s.torque i) h.0 = torque_lies i w h.0 low (omega arith) (r.forces i (omega arith) (omega arith)) h.1 in
       let m : i ≡ i - 2 + 2 = omega arith in
       let n : i - 2 + 1 ≡ i + 1 - 2 = omega arith in
       let more : (k : ℕ) → k < i - 2 + 1 → LiesIn (s.torque (k + 2)) (get_or (set w.torques (i - 2) h.0) k none) =
       written_more (λ k v. LiesIn (s.torque (k + 2)) v) w.torques (i - 2) h.0 none (omega (arith, r.room.torques)) r.torques
       (subst (λ m. LiesIn (s.torque m) h.0) m here) in
-      subst (λ (u : View). ReachedTorques (i + 1) u) (ok_same _ _ h.2)
+      subst (λ (u : View). ReachedTorques (i + 1) u) (same_ok _ _ h.2)
       (record {
         room = record {
           count = r.room.count;
@@ -275,8 +275,8 @@ module _ (chain : Links) (joints : List Interval) (choice : Choice) (s : Solutio
   dynamics_lie : (w t : View) → HasRoom chain w → dynamics_of chain joints w ≡ Ok t → ReachedTorques (bodies chain + 1) t
   unfolding dynamics_of
   dynamics_lie w t room e =
-      let d = and_then_ok (down_of chain joints w) _ t e in
-      let u = and_then_ok (up_of d.0) _ t d.2 in
+      let d = then-ok (down_of chain joints w) _ t e in
+      let u = then-ok (up_of d.0) _ t d.2 in
       projected_lie u.0 t (up_lies d.0 u.0 (down_lies w d.0 room d.1) u.1) u.2
 
   -- what a row of torques keeps
@@ -297,5 +297,5 @@ module _ (chain : Links) (joints : List Interval) (choice : Choice) (s : Solutio
   pub torques_lie : (torques : List Interval) → torques_of chain joints ≡ Ok torques → Told torques
   unfolding torques_of
   torques_lie torques e =
-      let d = and_then_ok (dynamics_of chain joints (blank_of (bodies chain))) _ torques e in
-      subst (λ l. Told l) (ok_same _ _ d.2) (told d.0 (dynamics_lie (blank_of (bodies chain)) d.0 (blank_room chain) d.1))
+      let d = then-ok (dynamics_of chain joints (blank_of (bodies chain))) _ torques e in
+      subst (λ l. Told l) (same_ok _ _ d.2) (told d.0 (dynamics_lie (blank_of (bodies chain)) d.0 (blank_room chain) d.1))

@@ -2,7 +2,6 @@ pub mod EachRow
 pub mod Meaning
 pub mod Buffers
 pub mod Directions
-pub mod Steps
 pub mod SweepSteps
 pub mod SweepLaws
 pub mod Related

@@ -1,6 +1,7 @@
 -- A sweep step by step.
 use Rattle.std.proofs.Common.{◌≡◌, ℕ, suc, ◌+◌, ◌-◌, ◌<◌, ◌≤◌, [], ◌∷◌, Result, Ok, Err, ap, ◌∙◌, arith}
-use Rattle.rbd.specs.Sweep.{and_then, sweep, counting_up, counting_down, upward, downward}
+use Rattle.rbd.specs.Sweep.{sweep, counting_up, counting_down, upward, downward}
+use Rattle.rb_result.specs.Steps.{◌>>=◌}
 
 -- there is a first of the numbers
 pub upward_next : (i hi : ℕ) → i < hi → upward i hi ≡ i ∷ upward (i + 1) hi
@@ -34,12 +35,12 @@ downward_done lo hi h =
 -- a sweep after its first step
 pub sweep_next : {S E : Type 0} (step : ℕ → S → Result S E) (i hi : ℕ) (s t : S) → i < hi → step i s ≡ Ok t → sweep step (upward i hi) s ≡ sweep step (upward (i + 1) hi) t
 sweep_next step i hi s t h e =
-    ap (λ is. sweep step is s) (upward_next i hi h) ∙ ap (λ r. and_then r (λ u. sweep step (upward (i + 1) hi) u)) e
+    ap (λ is. sweep step is s) (upward_next i hi h) ∙ ap (λ r. r >>= λ u. sweep step (upward (i + 1) hi) u) e
 
 -- a sweep ends at its first refusal
 pub sweep_refused : {S E : Type 0} (step : ℕ → S → Result S E) (i hi : ℕ) (s : S) (e : E) → i < hi → step i s ≡ Err e → sweep step (upward i hi) s ≡ Err e
 sweep_refused step i hi s e h r =
-    ap (λ is. sweep step is s) (upward_next i hi h) ∙ ap (λ r. and_then r (λ u. sweep step (upward (i + 1) hi) u)) r
+    ap (λ is. sweep step is s) (upward_next i hi h) ∙ ap (λ r. r >>= λ u. sweep step (upward (i + 1) hi) u) r
 
 -- a sweep past its end is done
 pub sweep_done : {S E : Type 0} (step : ℕ → S → Result S E) (i hi : ℕ) (s : S) → hi ≤ i → sweep step (upward i hi) s ≡ Ok s
@@ -48,12 +49,12 @@ sweep_done step i hi s h = ap (λ is. sweep step is s) (upward_done i hi h)
 -- a downward sweep after its first step
 pub sweep_down_next : {S E : Type 0} (step : ℕ → S → Result S E) (lo k : ℕ) (s t : S) → lo ≤ k → step k s ≡ Ok t → sweep step (downward lo (k + 1)) s ≡ sweep step (downward lo k) t
 sweep_down_next step lo k s t h e =
-    ap (λ is. sweep step is s) (downward_next lo k h) ∙ ap (λ r. and_then r (λ u. sweep step (downward lo k) u)) e
+    ap (λ is. sweep step is s) (downward_next lo k h) ∙ ap (λ r. r >>= λ u. sweep step (downward lo k) u) e
 
 -- a downward sweep ends at its first refusal
 pub sweep_down_refused : {S E : Type 0} (step : ℕ → S → Result S E) (lo k : ℕ) (s : S) (e : E) → lo ≤ k → step k s ≡ Err e → sweep step (downward lo (k + 1)) s ≡ Err e
 sweep_down_refused step lo k s e h r =
-    ap (λ is. sweep step is s) (downward_next lo k h) ∙ ap (λ r. and_then r (λ u. sweep step (downward lo k) u)) r
+    ap (λ is. sweep step is s) (downward_next lo k h) ∙ ap (λ r. r >>= λ u. sweep step (downward lo k) u) r
 
 -- a downward sweep past its end is done
 pub sweep_down_done : {S E : Type 0} (step : ℕ → S → Result S E) (lo hi : ℕ) (s : S) → hi ≤ lo → sweep step (downward lo hi) s ≡ Ok s

@@ -10,8 +10,9 @@ use Rattle.rbd.specs.Chain.{Links}
 use Rattle.rbd.specs.Flat.{mass_at, bodies}
 use Rattle.rbd.specs.Fault.{named_as}
 use Rattle.rbd.specs.Rules.{along, acceleration, needed_force, joint_force, torque}
-use Rattle.rbd.specs.Sweep.{and_then, sweep, upward, downward, RefusedAt}
+use Rattle.rbd.specs.Sweep.{sweep, upward, downward, RefusedAt}
 use Rattle.rbd.specs.Work.{View, none, no_vector, blank_of}
+use Rattle.rb_result.specs.Steps.{◌>>=◌}
 
 -- the world accelerates against gravity: 0, 0, 9.81
 abbrev pub world : V3 Interval
@@ -58,15 +59,15 @@ torque_rule chain i w =
 -- the acceleration of body i, and then the force that it needs
 unfoldable pub down_step : Links → List Interval → ℕ → View → Result View RowFault
 down_step chain joints i w =
-    and_then (acceleration_rule chain joints i w) (λ a.
-    and_then (needed_rule chain i a) (λ b.
-    Ok (record w { accelerations = slice_set w.accelerations i a; needed = slice_set w.needed i b })))
+    acceleration_rule chain joints i w >>= λ a.
+    needed_rule chain i a >>= λ b.
+    Ok (record w { accelerations = slice_set w.accelerations i a; needed = slice_set w.needed i b })
 
 unfoldable pub up_step : ℕ → View → Result View RowFault
-up_step i w = and_then (force_rule i w) (λ f. Ok (record w { forces = slice_set w.forces i f }))
+up_step i w = force_rule i w >>= λ f. Ok (record w { forces = slice_set w.forces i f })
 
 unfoldable pub torque_step : Links → ℕ → View → Result View RowFault
-torque_step chain i w = and_then (torque_rule chain i w) (λ t. Ok (record w { torques = slice_set w.torques (i - 2) t }))
+torque_step chain i w = torque_rule chain i w >>= λ t. Ok (record w { torques = slice_set w.torques (i - 2) t })
 
 -- before the first step: the world's acceleration, and zeros else
 abbrev pub start_of : View → View
@@ -90,11 +91,11 @@ projected_of chain w = sweep (torque_step chain) (upward 2 (w.bodies + 1)) w
 
 -- what the buffers hold in the end
 unfoldable pub dynamics_of : Links → List Interval → View → Result View RowFault
-dynamics_of chain joints w = and_then (down_of chain joints w) (λ d. and_then (up_of d) (λ u. projected_of chain u))
+dynamics_of chain joints w = down_of chain joints w >>= λ d. up_of d >>= λ u. projected_of chain u
 
 -- the torques of a chain whose joints accelerate so, or the first name that is refused
 unfoldable pub torques_of : Links → List Interval → Result (List Interval) RowFault
-torques_of chain joints = and_then (dynamics_of chain joints (blank_of (bodies chain))) (λ w. Ok w.torques)
+torques_of chain joints = dynamics_of chain joints (blank_of (bodies chain)) >>= λ w. Ok w.torques
 
 -- which sweep over a chain was refused, and where first
 pub data IsFirstRefusal (chain : Links) (joints : List Interval) (e : RowFault) : Type 0 where

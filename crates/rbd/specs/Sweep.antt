@@ -1,15 +1,11 @@
 -- Steps over a range of numbers, up to the first that is refused.
 use Rattle.std.specs.Prelude.{◌≡◌, ℕ, zero, suc, ◌+◌, ◌-◌, List, [], ◌∷◌, ◌++◌, Result, Ok, Err}
-
--- the second step on what the first gives, or the first's refusal
-abbrev pub and_then : {A B E : Type 0} → Result A E → (A → Result B E) → Result B E
-and_then (Ok x) f = f x
-and_then (Err e) f = Err e
+use Rattle.rb_result.specs.Steps.{◌>>=◌}
 
 -- the step at each of these places in turn, up to the first refusal
 abbrev pub sweep : {S E : Type 0} → (ℕ → S → Result S E) → List ℕ → S → Result S E
 sweep step [] s = Ok s
-sweep step (i ∷ is) s = and_then (step i s) (λ t. sweep step is t)
+sweep step (i ∷ is) s = step i s >>= λ t. sweep step is t
 
 -- so many numbers, the least is lo, in ascending order
 abbrev pub counting_up : ℕ → ℕ → List ℕ
