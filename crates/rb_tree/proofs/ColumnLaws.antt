@@ -1,5 +1,5 @@
 -- The columns of lists of bodies, body by body.
-use Rattle.std.proofs.Common.{◌≡◌, ℕ, zero, suc, ◌+◌, ◌-◌, ◌<◌, ◌≤◌, ◌==◌, ◌*◌, nat_lt, if◌then◌else◌, Bool, true, false, cond, List, [], ◌∷◌, ◌++◌, length, take, replicate, Option, None, Some, refl, sym, ◌∙◌, ap, subst, arith, add-one, add-zero, append_assoc, append-nil}
+use Rattle.std.proofs.Common.{◌≡◌, ℕ, zero, suc, ◌+◌, ◌-◌, ◌<◌, ◌≤◌, ◌==◌, ◌*◌, nat_lt, if◌then◌else◌, Bool, true, false, cond, List, [], ◌∷◌, ◌++◌, length, take, replicate, Option, None, Some, refl, sym, ◌∙◌, ap, subst, arith, get_or, add-one, add-zero, append_assoc, append-nil}
 use Rattle.std.specs.List.{slice_get, sum_by}
 use Rattle.std.specs.Option.{option_map_or}
 use Rattle.std.proofs.lemmas.List.{length-append, length-replicate, take_all}
@@ -12,7 +12,8 @@ use Rattle.rb_joint.specs.Any.{kind_of}
 use Rattle.rb_tree.specs.declared.robot.Body.{Body}
 use Rattle.rb_tree.specs.declared.robot.Mimic.{Mimic}
 use Rattle.rb_tree.specs.declared.columns.Start.{Start}
-use Rattle.rb_tree.specs.Columns.{full_columns, own_columns, own_entries, unless_mimic, start_behind, body_at, parent_at, columns_at, owners_from, nearest_within, nearest_column, body_of_column, up_of, has_mimic}
+use Rattle.rb_tree.specs.Columns.{full_columns, own_columns, own_entries, unless_mimic, start_behind, body_at, parent_at, columns_at, owners_from, nearest_within, nearest_column, body_of_column, up_of, has_mimic, AreStarts}
+use Rattle.rb_tree.proofs.ListLaws.{IsListOf-get}
 
 -- ---- sums of the first bodies
 few_columns : (k : Kind) → Flat.column_count k ≤ 7
@@ -189,8 +190,8 @@ pub at_start : (a p x : ℕ) → p < a → x ≡ (if nat_lt a (p + 1) then p els
 at_start a p x h = sym (ap (λ (t : Bool). if t then p else x) (lt_false a p h))
 
 -- body i of a robot has the number k + 1
-pub parent_of : (bodies : List Body) (i k : ℕ) (b : Body) → i ≡ k + 1 → slice_get bodies k ≡ Some b → b.parent ≡ parent_at bodies i
-parent_of bodies i k b e h = sym (ap (parent_at bodies) (e ∙ add-one k) ∙ parent_is bodies k b h)
+pub parent_number : (bodies : List Body) (i k : ℕ) (b : Body) → i ≡ k + 1 → slice_get bodies k ≡ Some b → b.parent ≡ parent_at bodies i
+parent_number bodies i k b e h = sym (ap (parent_at bodies) (e ∙ add-one k) ∙ parent_is bodies k b h)
 
 pub owner_there : (bodies : List Body) (k owner : ℕ) → slice_get (owners_from 1 bodies) k ≡ Some owner → body_of_column bodies (k + 1) ≡ owner
 unfolding body_of_column
@@ -232,3 +233,6 @@ column_end bodies = rw (take_all (length bodies) bodies (omega arith)) refl
 pub entry_end : (bodies : List Body) → (start_behind bodies (length bodies)).entry ≡ sum_by own_entries bodies
 unfolding start_behind
 entry_end bodies = rw (take_all (length bodies) bodies (omega arith)) refl
+
+pub end_is : (bodies : List Body) (starts : List Start) (n : ℕ) (d s : Start) → AreStarts bodies starts → n ≡ length bodies → s ≡ get_or starts n d → s ≡ start_behind bodies (length bodies)
+end_is bodies starts n d s are e is = is ∙ (IsListOf-get _ (start_behind bodies) starts n d are (omega arith) ∙ ap (start_behind bodies) e)

@@ -8,8 +8,8 @@ use Rattle.std.proofs.lemmas.Option.{get_or_from_slice_get, slice_get_within}
 use Rattle.rb_urdf.specs.declared.robot.UrdfJoint.{UrdfJoint}
 use Rattle.rb_urdf.specs.Robot.{Robot}
 use Rattle.rb_tree.specs.declared.order.Stem.{Stem}
-use Rattle.rb_tree.specs.Order.{body, climbed, IsBorne, IsOrder}
-use Rattle.rb_tree.specs.Part.{stem_at, up_of, down_of, link_of, parent_of, joint_of, HasLink, IsPartOf, IsGrown, IsClosed}
+use Rattle.rb_tree.specs.Order.{stem_of, climbed, IsBorne, IsOrder}
+use Rattle.rb_tree.specs.Grow.{stem_at, parent_link, child_link, link_of, parent_of, joint_of, HasLink, IsPartOf, IsGrown, IsClosed}
 use Rattle.rb_tree.proofs.Stems.{up_read, down_read, down_below}
 use Rattle.rb_tree.proofs.Pigeons.{each_placed}
 
@@ -22,8 +22,8 @@ climbed_world stems (suc steps) = climbed_world stems steps
 record Bearer (joints : List UrdfJoint) (stem parent : Stem) : Type 0 where
   pub within : unwrap_or stem.joint 0 < length joints
   pub named : stem.joint ≡ Some (unwrap_or stem.joint 0)
-  pub child : down_of joints (unwrap_or stem.joint 0) ≡ stem.link
-  pub parent_is : up_of joints (unwrap_or stem.joint 0) ≡ parent.link
+  pub child : child_link joints (unwrap_or stem.joint 0) ≡ stem.link
+  pub parent_is : parent_link joints (unwrap_or stem.joint 0) ≡ parent.link
 
 bearer : (joints : List UrdfJoint) (stem parent : Stem) → IsBorne joints stem parent → Bearer joints stem parent
 bearer joints stem parent b =
@@ -33,26 +33,26 @@ bearer joints stem parent b =
     record {
       within = omega arith;
       named = b.named ∙ ap Some (sym e);
-      child = ap (down_of joints) e ∙ down_read joints b.number b.joint within is ∙ b.child;
-      parent_is = ap (up_of joints) e ∙ up_read joints b.number b.joint within is ∙ b.parent_is;
+      child = ap (child_link joints) e ∙ down_read joints b.number b.joint within is ∙ b.child;
+      parent_is = ap (parent_link joints) e ∙ up_read joints b.number b.joint within is ∙ b.parent_is;
     }
 
 module _ (robot : Robot) (stems : List Stem) (children : All (λ joint. joint.child < length robot.links) robot.joints) (order : IsOrder robot stems) where
   later : (k : ℕ) → 0 < k → k < length stems → (stem_at stems k).parent ≡ parent_of stems k + 1
   unfolding parent_of
   later k low within =
-      let b : (0 < (body stems (suc k)).parent) × ((body stems (suc k)).parent < suc k) = order.parent_before (suc k) (omega arith) (omega arith) in
+      let b : (0 < (stem_of stems (suc k)).parent) × ((stem_of stems (suc k)).parent < suc k) = order.parent_before (suc k) (omega arith) (omega arith) in
       let b0 : 0 < (stem_at stems k).parent = b.0 in
       omega arith
 
   earlier : (k : ℕ) → 0 < k → k < length stems → parent_of stems k < k
   earlier k low within =
-      let b : (0 < (body stems (suc k)).parent) × ((body stems (suc k)).parent < suc k) = order.parent_before (suc k) (omega arith) (omega arith) in
+      let b : (0 < (stem_of stems (suc k)).parent) × ((stem_of stems (suc k)).parent < suc k) = order.parent_before (suc k) (omega arith) (omega arith) in
       let b1 : (stem_at stems k).parent < suc k = b.1 in
       omega (arith, later k low within)
 
-  above_is : (k : ℕ) → 0 < k → k < length stems → body stems (stem_at stems k).parent ≡ stem_at stems (parent_of stems k)
-  above_is k low within = ap (body stems) (later k low within ∙ add-one (parent_of stems k))
+  above_is : (k : ℕ) → 0 < k → k < length stems → stem_of stems (stem_at stems k).parent ≡ stem_at stems (parent_of stems k)
+  above_is k low within = ap (stem_of stems) (later k low within ∙ add-one (parent_of stems k))
 
   borne : (k : ℕ) → 0 < k → k < length stems → Bearer robot.joints (stem_at stems k) (stem_at stems (parent_of stems k))
   borne k low within =
@@ -105,8 +105,8 @@ module _ (robot : Robot) (stems : List Stem) (children : All (λ joint. joint.ch
   nested_by (suc most) zero k small within low high = absurd (omega arith)
   nested_by (suc most) (suc a) k small within low high =
       let way = order.depth_first (suc a) (omega arith) within in
-      let up_is : (body stems (suc a + 1)).parent ≡ parent_of stems (suc a) + 1 =
-      ap (λ n. (body stems n).parent) (add-one (suc a)) ∙ later (suc a) (omega arith) within in
+      let up_is : (stem_of stems (suc a + 1)).parent ≡ parent_of stems (suc a) + 1 =
+      ap (λ n. (stem_of stems n).parent) (add-one (suc a)) ∙ later (suc a) (omega arith) within in
       on_way (suc a) (omega arith) (λ b j less lo hi. nested_by most b j (omega arith) (omega arith) lo hi)
       way.0 a (parent_of stems (suc a)) k (omega arith) (way.1 ∙ up_is) low (omega arith)
 
@@ -121,8 +121,8 @@ module _ (robot : Robot) (stems : List Stem) (children : All (λ joint. joint.ch
   pub all_placed : (link : ℕ) → link < length robot.links → HasLink stems link
   all_placed link within = each_placed (length stems) (length robot.links) (link_of stems) order.count there_at once_at link within
 
-  child_placed : (j : ℕ) → j < length robot.joints → HasLink stems (down_of robot.joints j)
-  child_placed j within = all_placed (down_of robot.joints j) (down_below robot.joints (length robot.links) j children within)
+  child_placed : (j : ℕ) → j < length robot.joints → HasLink stems (child_link robot.joints j)
+  child_placed j within = all_placed (child_link robot.joints j) (down_below robot.joints (length robot.links) j children within)
 
   pub closed : IsClosed robot.joints stems
   closed k within j high starts = child_placed j high
@@ -150,12 +150,12 @@ module _ (robot : Robot) (stems : List Stem) (children : All (λ joint. joint.ch
     full = λ k i ki within low j high starts. child_placed j high;
   }
 
-  root_stem : stem_at stems 0 ≡ record { link = (body stems 1).link; joint = None; parent = 0 }
+  root_stem : stem_at stems 0 ≡ record { link = (stem_of stems 1).link; joint = None; parent = 0 }
   root_stem =
       ap (λ o. let s : Stem = record { link = (stem_at stems 0).link; joint = o; parent = (stem_at stems 0).parent } in s) order.root.no_joint
       ∙ ap (λ p. let s : Stem = record { link = (stem_at stems 0).link; joint = None; parent = p } in s) order.root.world
 
-  pub grown_order : IsGrown robot.joints (length robot.links) (body stems 1).link stems
+  pub grown_order : IsGrown robot.joints (length robot.links) (stem_of stems 1).link stems
   unfolding joint_of
   grown_order = record {
     part = whole_part;

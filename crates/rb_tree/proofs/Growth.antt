@@ -4,7 +4,7 @@ use Rattle.std.specs.Prelude.{unwrap_or}
 use Rattle.std.specs.List.{All}
 use Rattle.rb_urdf.specs.declared.robot.UrdfJoint.{UrdfJoint}
 use Rattle.rb_tree.specs.declared.order.Stem.{Stem}
-use Rattle.rb_tree.specs.Part.{stem_at, AreNumbered, up_of, down_of, link_of, parent_of, joint_of, HasLink, IsPart, IsGrown, IsNextStem}
+use Rattle.rb_tree.specs.Grow.{stem_at, AreNumbered, parent_link, child_link, link_of, parent_of, joint_of, HasLink, IsPart, IsGrown, IsNextStem}
 use Rattle.rb_tree.proofs.Placing.{below_or_last, part_of_one, part_more}
 use Rattle.rb_tree.proofs.Stems.{length_push, body_kept, body_last, links_extend, parents_extend, joints_extend, down_below}
 use Rattle.rb_tree.proofs.Pigeons.{fits, covers}
@@ -15,7 +15,7 @@ unfolding link_of
 grown_first joints links root within =
     let stems : List Stem = record { link = root; joint = None; parent = 0 } ∷ [] in
     record {
-      part = part_of_one (length joints) (up_of joints) (down_of joints) (link_of stems) (parent_of stems) (joint_of stems);
+      part = part_of_one (length joints) (parent_link joints) (child_link joints) (link_of stems) (parent_of stems) (joint_of stems);
       root_is = refl;
       numbered = record { root = refl; later = λ k low high. absurd (omega arith) };
       named = λ k low high. absurd (omega arith);
@@ -31,14 +31,14 @@ module _ (joints : List UrdfJoint) (links root : ℕ) (stems : List Stem) (stem 
   more : List Stem
   more = stems ++ stem ∷ []
 
-  more_part : IsPart (length joints) (up_of joints) (down_of joints) (length more) (link_of more) (parent_of more) (joint_of more)
+  more_part : IsPart (length joints) (parent_link joints) (child_link joints) (length more) (link_of more) (parent_of more) (joint_of more)
   unfolding more
   more_part =
-      let P : ℕ → Type 0 = λ n. IsPart (length joints) (up_of joints) (down_of joints) n (link_of more) (parent_of more) (joint_of more) in
+      let P : ℕ → Type 0 = λ n. IsPart (length joints) (parent_link joints) (child_link joints) n (link_of more) (parent_of more) (joint_of more) in
       subst P (sym (length_push stems stem))
-      (part_more (length joints) (up_of joints) (down_of joints) (length stems) (link_of stems) (parent_of stems) (joint_of stems)
+      (part_more (length joints) (parent_link joints) (child_link joints) (length stems) (link_of stems) (parent_of stems) (joint_of stems)
       (link_of more) (parent_of more) (joint_of more) next.place next.number grown.part next.next
-      (links_extend stems stem (down_of joints next.number) next.link_is) (parents_extend stems stem next.place next.parent_is)
+      (links_extend stems stem (child_link joints next.number) next.link_is) (parents_extend stems stem next.place next.parent_is)
       (joints_extend stems stem next.number next.named))
 
   more_numbered : AreNumbered more
@@ -65,7 +65,7 @@ module _ (joints : List UrdfJoint) (links root : ℕ) (stems : List Stem) (stem 
   more_there : (k : ℕ) → k < length more → link_of more k < links
   unfolding more
   more_there k high =
-      let extends = links_extend stems stem (down_of joints next.number) next.link_is in
+      let extends = links_extend stems stem (child_link joints next.number) next.link_is in
       elim (below_or_last k (length stems) (omega (arith, length_push stems stem))) [
         | inl lt ↦ omega (arith, extends.same k lt, grown.there k lt)
         | inr e ↦ omega (arith, ap (link_of more) e, extends.last, down_below joints links next.number children next.next.free.within)

@@ -16,6 +16,7 @@ pub mod ListLaws
 pub mod ColumnLaws
 pub mod Spans
 pub mod Nearest
+pub mod Root
 pub mod MakingLaws
 pub mod OneRobot
-pub mod Root
+pub mod Shapes

@@ -1,8 +1,11 @@
--- Lists that grow at the end, item by item.
-use Rattle.std.proofs.Common.{◌≡◌, ℕ, zero, suc, ◌+◌, ◌<◌, List, [], ◌∷◌, ◌++◌, length, Some, ◌⊎◌, inl, inr, refl, sym, ◌∙◌, ap, subst, arith, get_or}
-use Rattle.std.specs.List.{slice_get, AllByRecursion}
+-- Lists that grow at the end, and pairs of lists, item by item.
+use Rattle.std.proofs.Common.{◌≡◌, ◌≢◌, ℕ, zero, suc, ◌+◌, ◌<◌, List, [], ◌∷◌, ◌++◌, length, map, AllPairs, Some, ◌⊎◌, inl, inr, refl, sym, ◌∙◌, ap, subst, arith, get_or}
+use Rattle.std.specs.List.{slice_get, sum_by, AllByRecursion, AllZip}
+use Rattle.std.proofs.lemmas.Bool.{cases_order}
 use Rattle.std.proofs.lemmas.List.{length-append}
-use Rattle.std.proofs.lemmas.Option.{get_or_from_slice_get}
+use Rattle.std.proofs.lemmas.List.Sums.{sum_by-cons}
+use Rattle.std.proofs.lemmas.Option.{get_or_from_slice_get, slice_get_within, same_Some}
+use Rattle.rb_urdf.proofs.Zips.{slice_get-to_map}
 use Rattle.rb_tree.specs.Columns.{IsListOf}
 
 pub slice_get-append_left : {X : Type 0} (xs ys : List X) (k : ℕ) → k < length xs → slice_get (xs ++ ys) k ≡ slice_get xs k
@@ -40,11 +43,49 @@ IsListOf-first f y e = IsListOf-push 0 f [] y (IsListOf-none f) e
 pub IsListOf-get : {X : Type 0} (n : ℕ) (f : ℕ → X) (xs : List X) (k : ℕ) (d : X) → IsListOf n f xs → k < n → get_or xs k d ≡ f k
 IsListOf-get n f xs k d l h = get_or_from_slice_get xs k (f k) d (l.at k h)
 
+pub same_item : {X : Type 0} (xs : List X) (i j : ℕ) (x y : X) → i ≡ j → slice_get xs i ≡ Some x → slice_get xs j ≡ Some y → x ≡ y
+same_item xs i j x y e is_x is_y = same_Some x y (sym is_x ∙ (ap (slice_get xs) e ∙ is_y))
+
 pub All-at : {X : Type 0} (P : X → Type 0) (xs : List X) (k : ℕ) (x : X) → AllByRecursion P xs → slice_get xs k ≡ Some x → P x
 All-at P [] k x a h = cc
 All-at {X = X} P (y ∷ ys) zero x a h = let e : y ≡ x = cc in let Q : X → Type 0 = P in subst Q e a.0
 All-at P (y ∷ ys) (suc k) x a h = All-at P ys k x a.1 h
 
-pub All-push : {X : Type 0} (P : X → Type 0) (xs : List X) (y : X) → AllByRecursion P xs → P y → AllByRecursion P (xs ++ y ∷ [])
-All-push P [] y a h = (h, tt)
-All-push P (x ∷ xs) y a h = (a.0, All-push P xs y a.1 h)
+-- ---- two lists side by side
+module _ {A B : Type 0} (R : A → B → Type 0) where
+  pub AllZip-more : (xs : List A) (ys : List B) (x : A) (y : B) → AllZip R xs ys → R x y → AllZip R (xs ++ x ∷ []) (ys ++ y ∷ [])
+  AllZip-more [] [] x y e r = (r, tt)
+  AllZip-more [] (b ∷ ys) x y e r = absurd e
+  AllZip-more (a ∷ xs) [] x y e r = absurd e
+  AllZip-more (a ∷ xs) (b ∷ ys) x y e r = (e.0, AllZip-more xs ys x y e.1 r)
+
+  pub AllZip-firsts : (P : A → Type 0) → ((a : A) (b : B) → R a b → P a) → (xs : List A) (ys : List B) → AllZip R xs ys → AllByRecursion P xs
+  AllZip-firsts P f [] [] e = tt
+  AllZip-firsts P f [] (b ∷ ys) e = absurd e
+  AllZip-firsts P f (a ∷ xs) [] e = absurd e
+  AllZip-firsts P f (a ∷ xs) (b ∷ ys) e = (f a b e.0, AllZip-firsts P f xs ys e.1)
+
+  pub AllZip-sum : (f : A → ℕ) (g : B → ℕ) → ((a : A) (b : B) → R a b → g b ≡ f a) → (xs : List A) (ys : List B) → AllZip R xs ys → sum_by g ys ≡ sum_by f xs
+  AllZip-sum f g h [] [] e = refl
+  AllZip-sum f g h [] (b ∷ ys) e = absurd e
+  AllZip-sum f g h (a ∷ xs) [] e = absurd e
+  AllZip-sum f g h (a ∷ xs) (b ∷ ys) e = omega (arith, sum_by-cons g b ys, sum_by-cons f a xs, h a b e.0, AllZip-sum f g h xs ys e.1)
+
+-- ---- items that differ
+module _ {A B : Type 0} (f : A → B) (xs : List A) where
+  apart_later : (i j : ℕ) (a b : A) → AllPairs (λ x y. x ≢ y) (map f xs) → i < j → slice_get xs i ≡ Some a → slice_get xs j ≡ Some b → f a ≢ f b
+  apart_later i j a b differ less p q e =
+      let at_i = slice_get-to_map f xs i a p in
+      let at_j = slice_get-to_map f xs j b q in
+      differ i j (f a) less (slice_get_within (map f xs) j (f b) at_j)
+      (get_or_from_slice_get (map f xs) i (f a) (f a) at_i ∙ (e ∙ sym (get_or_from_slice_get (map f xs) j (f b) (f a) at_j)))
+
+  pub apart : (i j : ℕ) (a b : A) → AllPairs (λ x y. x ≢ y) (map f xs) → i ≢ j → slice_get xs i ≡ Some a → slice_get xs j ≡ Some b → f a ≢ f b
+  apart i j a b differ other p q e =
+      elim (cases_order i j) [
+        | inl same ↦ other same
+        | inr o ↦ elim o [
+          | inl less ↦ apart_later i j a b differ less p q e
+          | inr more ↦ apart_later j i b a differ more q p (sym e)
+        ]
+      ]

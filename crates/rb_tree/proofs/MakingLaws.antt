@@ -1,31 +1,48 @@
 -- What is made of the links and the joints of a robot, body by body.
-use Rattle.std.proofs.Common.{◌≡◌, ℕ, zero, suc, ◌+◌, ◌<◌, ◌≤◌, List, [], ◌∷◌, ◌++◌, length, take, get_or, Option, None, Some, ◌⊎◌, inl, inr, add-one, sym, ◌∙◌, ap, subst, refl, arith}
-use Rattle.std.specs.List.{slice_get, sum_by, All, AllByRecursion, AllZip}
+use Rattle.std.proofs.Common.{◌≡◌, ◌≢◌, ℕ, zero, suc, ◌+◌, ◌<◌, ◌≤◌, List, [], ◌∷◌, ◌++◌, length, take, get_or, Option, None, Some, ◌⊎◌, inl, inr, add-one, sym, ◌∙◌, ap, subst, refl, arith}
+use Rattle.std.specs.List.{slice_get, All, AllByRecursion, AllZip}
 use Rattle.std.specs.Option.{option_map_or}
 use Rattle.std.specs.Prelude.{Result, Ok, Err, IfErr, IsErrAnd}
-use Rattle.std.proofs.lemmas.List.Sums.{sum_by-cons}
 use Rattle.std.proofs.Math.Seq.{take-suc}
+use Rattle.std.proofs.lemmas.Bool.{cases_order}
 use Rattle.std.proofs.lemmas.Option.{get_or_from_slice_get, slice_get_within}
+use Rattle.std.proofs.lemmas.Slice.Zip.{AllZip-long}
+use Rattle.rb_result.proofs.Results.{placed-ok, same_ok}
+use Rattle.rb_frac.specs.Spatial.{BodyInertia}
+use Rattle.rb_num.specs.Interval.{Interval}
+use Rattle.rb_spatial.specs.Vectors.{vector_of}
+use Rattle.rb_trig.specs.Axis.{MakesUnit}
 use Rattle.rb_flat.specs.Joint as Flat
 use Rattle.rb_joint.specs.declared.any.AnyJoint.{AnyJoint}
 use Rattle.rb_joint.specs.Any as Model
 use Rattle.rb_urdf.specs.declared.robot.UrdfKind.{UrdfKind}
 use Rattle.rb_urdf.specs.declared.robot.UrdfKind.TheVariants.{Fixed, Revolute, Prismatic, Continuous, Planar, Floating}
+use Rattle.rb_urdf.specs.declared.robot.UrdfLink.{UrdfLink}
+use Rattle.rb_urdf.specs.declared.robot.UrdfJoint.{UrdfJoint}
+use Rattle.rb_urdf.specs.Robot.{Robot, IsRobot}
+use Rattle.rb_urdf.proofs.Zips.{beside_left, each-pair, each-right}
+use Rattle.rb_body.specs.declared.raw.LinkRaw.{LinkRaw}
 use Rattle.rb_body.specs.declared.raw.JointRaw.{JointRaw}
 use Rattle.rb_body.specs.Raw as Raw
-use Rattle.rb_urdf.specs.declared.robot.UrdfJoint.{UrdfJoint}
-use Rattle.rb_urdf.specs.Robot.{Robot}
+use Rattle.rb_body.specs.Raw.{HasAxis, HasModel, link_brackets}
+use Rattle.rb_body.specs.Inertia.{inertia_by}
+use Rattle.rb_body.specs.Joint.{joint_by, HasNumbers}
+use Rattle.rb_body.proofs.Models.{joint_answer}
 use Rattle.rb_tree.specs.declared.faults.TreeFault.{TreeFault}
 use Rattle.rb_tree.specs.declared.order.Stem.{Stem}
 use Rattle.rb_tree.specs.declared.robot.Body.{Body}
 use Rattle.rb_tree.specs.declared.robot.Mimic.{Mimic}
-use Rattle.rb_tree.specs.Order.{columns_of, stem_columns, no_stem, body, IsOrder, IsBuilt as IsBuiltJoint}
-use Rattle.rb_tree.specs.Faults.{IsFewInAll, no_memory}
-use Rattle.rb_tree.specs.Columns.{own_columns, mimic_or, leader_at, parent_at}
-use Rattle.rb_tree.specs.Robot.{IsBodyKept, AreBodies}
-use Rattle.rb_tree.specs.Build.{IsBody, IsBuilt, HasConstants, IsRefused, HasConstantFault}
-use Rattle.rb_tree.specs.Made.{IsJointThere, IsStemThere, IsBodyOf}
+use Rattle.rb_tree.specs.Faults.{no_memory}
+use Rattle.rb_tree.specs.Sizes.{columns_of, stem_columns, IsBuildable}
+use Rattle.rb_tree.specs.Order.{no_stem, stem_of, IsOrder, IsFewInAll}
+use Rattle.rb_tree.specs.Columns.{full_columns, own_columns, unless_mimic, mimic_or, leader_at, parent_at, body_at}
+use Rattle.rb_tree.specs.Robot.{IsAxisKept, IsBodyKept, HasOwnJointName, AreBodies}
+use Rattle.rb_tree.specs.Parts.{fault_at, raw_of, root_joint, inertia_made, joint_made}
+use Rattle.rb_tree.specs.Build.{Bears, IsBody, IsBuilt, HasConstants, IsRefused, HasConstantFault, IsJointThere, IsStemThere, IsBodyOf}
+use Rattle.rb_tree.proofs.ListLaws.{AllZip-more, AllZip-firsts, AllZip-sum, apart, same_item}
+use Rattle.rb_tree.proofs.Root.{root_still}
 
+-- ---- the constants of a body
 kind_columns : (kind : UrdfKind) → Flat.column_count (Raw.kind_of kind) ≡ columns_of kind
 kind_columns Fixed = refl
 kind_columns Revolute = refl
@@ -34,68 +51,54 @@ kind_columns Continuous = refl
 kind_columns Planar = refl
 kind_columns Floating = refl
 
--- a model has the columns of the kind that its joint is taken as
-pub model_columns : (model : AnyJoint) (raw : JointRaw) (kind : UrdfKind) → Model.kind_of model ≡ Raw.kind_of raw.kind → raw.kind ≡ kind → Flat.column_count (Model.kind_of model) ≡ columns_of kind
-model_columns model raw kind same is = ap Flat.column_count same ∙ (ap (λ (k : UrdfKind). Flat.column_count (Raw.kind_of k)) is ∙ kind_columns kind)
+-- the numbers that a joint is made of give the same joint
+joint_again : (kind : UrdfKind) (xyz rpy axis : List Interval) (r : AnyJoint × JointRaw) → HasModel kind → joint_by kind xyz rpy axis ≡ Ok r → HasNumbers kind xyz rpy axis r.1 →
+    joint_by r.1.kind r.1.xyz r.1.rpy r.1.axis ≡ Ok r
+unfolding joint_by
+joint_again Fixed xyz rpy axis r h e n =
+    let same : joint_by r.1.kind r.1.xyz r.1.rpy r.1.axis ≡ joint_by Fixed xyz rpy axis = λ i. joint_by (n.kind i) (n.origin i) (n.angles i) r.1.axis in
+    same ∙ e
+joint_again Revolute xyz rpy axis r h e n = (λ i. joint_by (n.kind i) (n.origin i) (n.angles i) (n.axis tt i)) ∙ e
+joint_again Prismatic xyz rpy axis r h e n = (λ i. joint_by (n.kind i) (n.origin i) (n.angles i) (n.axis tt i)) ∙ e
+joint_again Continuous xyz rpy axis r h e n = absurd h
+joint_again Planar xyz rpy axis r h e n = absurd h
+joint_again Floating xyz rpy axis r h e n = absurd h
 
--- ---- lists item by item
-pub Each-push : {A B : Type 0} (R : A → B → Type 0) (xs : List A) (ys : List B) (x : A) (y : B) → AllZip R xs ys → R x y → AllZip R (xs ++ x ∷ []) (ys ++ y ∷ [])
-Each-push R [] [] x y e r = (r, tt)
-Each-push R [] (b ∷ ys) x y e r = absurd e
-Each-push R (a ∷ xs) [] x y e r = absurd e
-Each-push R (a ∷ xs) (b ∷ ys) x y e r = (e.0, Each-push R xs ys x y e.1 r)
+axis_kept : (kind : UrdfKind) (xyz rpy axis : List Interval) (raw : JointRaw) → HasNumbers kind xyz rpy axis raw → IsAxisKept raw
+axis_kept kind xyz rpy axis raw n = record {
+  unit = λ h.
+      let has = subst HasAxis n.kind h in
+      let Unit_long : List Interval → Type 0 = λ v. MakesUnit (vector_of v).x (vector_of v).y (vector_of v).z raw.factor in
+      subst Unit_long (sym (n.axis has)) (n.unit has);
+  zero = λ none. n.zero (λ has. none (subst HasAxis (sym n.kind) has));
+}
 
-pub Each-length : {A B : Type 0} (R : A → B → Type 0) (xs : List A) (ys : List B) → AllZip R xs ys → length xs ≡ length ys
-Each-length R [] [] e = refl
-Each-length R [] (b ∷ ys) e = absurd e
-Each-length R (a ∷ xs) [] e = absurd e
-Each-length R (a ∷ xs) (b ∷ ys) e = ap suc (Each-length R xs ys e.1)
+model_is : (joint : UrdfJoint) (r : AnyJoint × JointRaw) → joint_made joint ≡ Ok r → joint_by joint.kind joint.xyz joint.rpy joint.axis ≡ Ok r
+unfolding joint_made
+model_is joint r made = placed-ok fault_at joint.place _ r made
 
-pub Each-map : {A B : Type 0} (R Q : A → B → Type 0) → ((a : A) (b : B) → R a b → Q a b) → (xs : List A) (ys : List B) → AllZip R xs ys → AllZip Q xs ys
-Each-map R Q f [] [] e = tt
-Each-map R Q f [] (b ∷ ys) e = absurd e
-Each-map R Q f (a ∷ xs) [] e = absurd e
-Each-map R Q f (a ∷ xs) (b ∷ ys) e = (f a b e.0, Each-map R Q f xs ys e.1)
+inertia_is : (link : UrdfLink) (raw : LinkRaw) (inertia : BodyInertia Interval) → raw ≡ raw_of link → inertia_made link ≡ Ok inertia → inertia_by (link_brackets raw) ≡ Ok inertia
+unfolding inertia_made
+inertia_is link raw inertia e made = ap (λ (l : LinkRaw). inertia_by (link_brackets l)) e ∙ placed-ok fault_at link.place _ inertia made
 
-pub Each-left : {A B : Type 0} (R : A → B → Type 0) (P : A → Type 0) → ((a : A) (b : B) → R a b → P a) → (xs : List A) (ys : List B) → AllZip R xs ys → AllByRecursion P xs
-Each-left R P f [] [] e = tt
-Each-left R P f [] (b ∷ ys) e = absurd e
-Each-left R P f (a ∷ xs) [] e = absurd e
-Each-left R P f (a ∷ xs) (b ∷ ys) e = (f a b e.0, Each-left R P f xs ys e.1)
+pub constants_kept : (link : UrdfLink) (joint : UrdfJoint) (body : Body) → HasModel joint.kind → body.link_raw ≡ raw_of link → inertia_made link ≡ Ok body.inertia →
+    joint_made joint ≡ Ok (body.joint, body.joint_raw) → HasNumbers joint.kind joint.xyz joint.rpy joint.axis body.joint_raw → IsBodyKept body
+constants_kept link joint body h raw inertia model n = record {
+  inertia = inertia_is link body.link_raw body.inertia raw inertia;
+  joint = joint_again joint.kind joint.xyz joint.rpy joint.axis (body.joint, body.joint_raw) h (model_is joint (body.joint, body.joint_raw) model) n;
+  axis = axis_kept joint.kind joint.xyz joint.rpy joint.axis body.joint_raw n;
+}
 
-pub Each-right : {A B : Type 0} (R : A → B → Type 0) (P : B → Type 0) → ((a : A) (b : B) → R a b → P b) → (xs : List A) (ys : List B) → AllZip R xs ys → AllByRecursion P ys
-Each-right R P f [] [] e = tt
-Each-right R P f [] (b ∷ ys) e = absurd e
-Each-right R P f (a ∷ xs) [] e = absurd e
-Each-right R P f (a ∷ xs) (b ∷ ys) e = (f a b e.0, Each-right R P f xs ys e.1)
-
-pub Each-sum : {A B : Type 0} (R : A → B → Type 0) (f : A → ℕ) (g : B → ℕ) → ((a : A) (b : B) → R a b → g b ≡ f a) → (xs : List A) (ys : List B) → AllZip R xs ys → sum_by g ys ≡ sum_by f xs
-Each-sum R f g h [] [] e = refl
-Each-sum R f g h [] (b ∷ ys) e = absurd e
-Each-sum R f g h (a ∷ xs) [] e = absurd e
-Each-sum R f g h (a ∷ xs) (b ∷ ys) e = omega (arith, sum_by-cons g b ys, sum_by-cons f a xs, h a b e.0, Each-sum R f g h xs ys e.1)
-
--- an item of the second list has its partner in the first
-pub record HasPartner {A B : Type 0} (R : A → B → Type 0) (xs : List A) (k : ℕ) (y : B) : Type 0 where
-  pub partner : A
-  pub is : slice_get xs k ≡ Some partner
-  pub related : R partner y
-
-pub Each-at : {A B : Type 0} (R : A → B → Type 0) (xs : List A) (ys : List B) (k : ℕ) (y : B) → AllZip R xs ys → slice_get ys k ≡ Some y → HasPartner R xs k y
-Each-at R [] [] k y e h = cc
-Each-at R [] (b ∷ ys) k y e h = absurd e
-Each-at R (a ∷ xs) [] k y e h = absurd e
-Each-at {B = B} R (a ∷ xs) (b ∷ ys) zero y e h =
-    let s : b ≡ y = cc in
-    let Q : B → Type 0 = R a in
-    record { partner = a; is = refl; related = subst Q s e.0 }
-Each-at R (a ∷ xs) (b ∷ ys) (suc k) y e h =
-    let p = Each-at R xs ys k y e.1 h in
-    record { partner = p.partner; is = p.is; related = p.related }
+-- a model has the columns of the joint's kind
+pub model_columns : (joint : UrdfJoint) (model : AnyJoint) (raw : JointRaw) → joint_made joint ≡ Ok (model, raw) → HasNumbers joint.kind joint.xyz joint.rpy joint.axis raw →
+    Flat.column_count (Model.kind_of model) ≡ columns_of joint.kind
+model_columns joint model raw made n =
+    let encloses = joint_answer joint.kind joint.xyz joint.rpy joint.axis (model, raw) (model_is joint (model, raw) made) in
+    ap Flat.column_count encloses.kind ∙ (ap (λ (k : UrdfKind). Flat.column_count (Raw.kind_of k)) n.kind ∙ kind_columns joint.kind)
 
 -- ---- places in the order
-pub stem_at : (stems : List Stem) (k : ℕ) (stem : Stem) → slice_get stems k ≡ Some stem → body stems (suc k) ≡ stem
-stem_at stems k stem h = get_or_from_slice_get stems k stem no_stem h
+pub stem_found : (stems : List Stem) (k : ℕ) (stem : Stem) → slice_get stems k ≡ Some stem → stem_of stems (suc k) ≡ stem
+stem_found stems k stem h = get_or_from_slice_get stems k stem no_stem h
 
 joint_named : (joints : List UrdfJoint) (o : Option ℕ) (number : ℕ) (joint : UrdfJoint) → o ≡ Some number → slice_get joints number ≡ Some joint → IsJointThere joints o
 joint_named joints None number joint e h = cc
@@ -107,13 +110,13 @@ joint_none joints (Some n) e = cc
 
 pub stem_there : (robot : Robot) (stems : List Stem) (k : ℕ) (stem : Stem) → IsOrder robot stems → slice_get stems k ≡ Some stem → IsStemThere robot stem
 stem_there robot stems zero stem o h =
-    let e = stem_at stems 0 stem h in
+    let e = stem_found stems 0 stem h in
     record {
       link = omega (arith, o.there 1 (omega arith) o.some, ap (λ (s : Stem). s.link) e);
       joint = joint_none robot.joints stem.joint (ap (λ (s : Stem). s.joint) (sym e) ∙ o.root.no_joint);
     }
 stem_there robot stems (suc k) stem o h =
-    let e = stem_at stems (suc k) stem h in
+    let e = stem_found stems (suc k) stem h in
     let within = slice_get_within stems (suc k) stem h in
     let b = o.borne (suc (suc k)) (omega arith) (omega arith) in
     record {
@@ -123,15 +126,15 @@ stem_there robot stems (suc k) stem o h =
 
 -- the parent of the body at place k, whose number is k + 1, has a smaller number
 pub stem_low : (robot : Robot) (stems : List Stem) (k : ℕ) (stem : Stem) → IsOrder robot stems → slice_get stems k ≡ Some stem → stem.parent ≤ k
-stem_low robot stems zero stem o h = omega (arith, ap (λ (s : Stem). s.parent) (stem_at stems 0 stem h), o.root.world)
+stem_low robot stems zero stem o h = omega (arith, ap (λ (s : Stem). s.parent) (stem_found stems 0 stem h), o.root.world)
 stem_low robot stems (suc k) stem o h =
     let within = slice_get_within stems (suc k) stem h in
     let low = o.parent_before (suc (suc k)) (omega arith) (omega arith) in
-    omega (arith, ap (λ (s : Stem). s.parent) (stem_at stems (suc k) stem h), low.1)
+    omega (arith, ap (λ (s : Stem). s.parent) (stem_found stems (suc k) stem h), low.1)
 
 -- ---- robots
 pub have_constants : (robot : Robot) (stems : List Stem) (bodies : List Body) → AllZip (IsBodyOf robot) stems bodies → AllByRecursion (HasConstants robot) stems
-have_constants robot stems bodies e = Each-left (IsBodyOf robot) (HasConstants robot) (λ stem body b. (body, b.is)) stems bodies e
+have_constants robot stems bodies e = AllZip-firsts (IsBodyOf robot) (HasConstants robot) (λ stem body b. (body, b.is)) stems bodies e
 
 leader_found : (o : Option Body) (i : ℕ) → ((b : Body) → o ≡ Some b → b.mimic ≡ None) → option_map_or (λ (b : Body). mimic_or b.mimic i) o i ≡ i
 leader_found None i h = refl
@@ -141,44 +144,122 @@ low_parent : (o : Option Body) (i : ℕ) → 1 ≤ i → ((b : Body) → o ≡ S
 low_parent None i from h = from
 low_parent (Some b) i from h = h b refl
 
+full_is_own : (robot : Robot) (stem : Stem) (body : Body) → IsBody robot stem body → full_columns body ≡ own_columns body
+full_is_own robot stem body b = sym (ap (λ (m : Option Mimic). unless_mimic m (Flat.column_count (Model.kind_of body.joint))) b.made.mimic)
+
+no_mimic : {X : Type 0} (m : Option Mimic) (mimic : Mimic) → m ≡ None → m ≡ Some mimic → X
+no_mimic m mimic p q = absurd (let e = sym p ∙ q in cc)
+
 module _ (robot : Robot) (stems : List Stem) (bodies : List Body) (o : IsOrder robot stems) (e : AllZip (IsBodyOf robot) stems bodies) where
   leader_is : (i : ℕ) → leader_at bodies i ≡ i
   leader_is zero = refl
-  leader_is (suc k) = leader_found (slice_get bodies k) (suc k) (λ b h. (Each-at (IsBodyOf robot) stems bodies k b e h).related.is.made.mimic)
+  leader_is (suc k) = leader_found (slice_get bodies k) (suc k) (λ b h. (beside_left (IsBodyOf robot) stems bodies e k b h).2.is.made.mimic)
 
   parent_is_low : (i : ℕ) → 1 ≤ i → parent_at bodies i < i
   parent_is_low zero from = absurd (omega arith)
   parent_is_low (suc k) from =
       low_parent (slice_get bodies k) (suc k) from (λ b h.
-      let p = Each-at (IsBodyOf robot) stems bodies k b e h in
-      omega (arith, p.related.is.parent, stem_low robot stems k p.partner o p.is))
+      let p = beside_left (IsBodyOf robot) stems bodies e k b h in
+      omega (arith, p.2.is.parent, stem_low robot stems k p.0 o p.1))
 
-  pub are_bodies : IsFewInAll robot stems → AreBodies bodies
-  are_bodies few =
-      let n = Each-length (IsBodyOf robot) stems bodies e in
-      let columns = Each-sum (IsBodyOf robot) (stem_columns robot.joints) own_columns (λ stem body b. b.columns) stems bodies e in
+  -- ---- names
+  stem_beside : (i : ℕ) (b : Body) → body_at bodies i ≡ Some b → (stem : Stem) × (0 < i) × (i ≤ length stems) × (stem_of stems i ≡ stem) × IsBodyOf robot stem b
+  stem_beside zero b h = absurd cc
+  stem_beside (suc k) b h =
+      let p = beside_left (IsBodyOf robot) stems bodies e k b h in
+      let within = slice_get_within stems k p.0 p.1 in
+      (p.0, omega arith, omega (arith, within), stem_found stems k p.0 p.1, p.2)
+
+  links_apart : (i j : ℕ) → i ≢ j → 0 < i → i ≤ length stems → 0 < j → j ≤ length stems → (stem_of stems i).link ≢ (stem_of stems j).link
+  links_apart i j other from_i to_i from_j to_j same =
+      elim (cases_order i j) [
+        | inl e ↦ other e
+        | inr apart ↦ elim apart [
+          | inl less ↦ o.once i j from_i less to_j same
+          | inr more ↦ o.once j i from_j more to_i (sym same)
+        ]
+      ]
+
+  link_names : IsRobot robot.links robot.joints → (i j : ℕ) (a b : Body) → i ≢ j → body_at bodies i ≡ Some a → body_at bodies j ≡ Some b → a.link_name ≢ b.link_name
+  link_names file i j a b other p q same =
+      let s = stem_beside i a p in
+      let t = stem_beside j b q in
+      let links_differ : s.0.link ≢ t.0.link = λ h. links_apart i j other s.1 s.2 t.1 t.2 (ap (λ (x : Stem). x.link) s.3 ∙ (h ∙ sym (ap (λ (x : Stem). x.link) t.3))) in
+      apart (λ (l : UrdfLink). l.name) robot.links s.0.link t.0.link s.4.is.link t.4.is.link file.link_names.differ links_differ s.4.is.pair.link_is t.4.is.pair.link_is
+      (sym s.4.is.made.link_name ∙ (same ∙ t.4.is.made.link_name))
+
+  -- a root's joint is fixed
+  root_fixed : (b : Body) → body_at bodies 1 ≡ Some b → Model.kind_of b.joint ≡ Flat.Fixed
+  root_fixed b h =
+      let s = stem_beside 1 b h in
+      let unborne : s.0.joint ≡ None = ap (λ (x : Stem). x.joint) (sym s.3) ∙ o.root.no_joint in
+      let is_root : s.4.is.joint ≡ root_joint robot.place = subst (λ (n : Option ℕ). Bears robot n s.4.is.joint) unborne s.4.is.pair.joint_is in
+      let same = same_ok (b.joint, b.joint_raw) _ (sym s.4.is.made.model ∙ (ap joint_made is_root ∙ root_still robot.place)) in
+      ap (λ (r : AnyJoint × JointRaw). Model.kind_of r.0) same
+
+  later_number : (i : ℕ) (b : Body) → body_at bodies i ≡ Some b → HasOwnJointName i b → 1 < i
+  later_number i b h (inl later) = later
+  later_number i b h (inr moves) =
+      let s = stem_beside i b h in
+      elim (cases_order i 1) [
+        | inl e ↦ absurd (moves (root_fixed b (ap (body_at bodies) (sym e) ∙ h)))
+        | inr apart ↦ elim apart [ inl less ↦ absurd (omega (arith, s.1)) | inr more ↦ more ]
+      ]
+
+  -- the joint that bears a later body
+  bearer_by : (i : ℕ) (b : Body) → 1 < i → body_at bodies i ≡ Some b → (number : ℕ) × (joint : UrdfJoint) × (slice_get robot.joints number ≡ Some joint) × (joint.child ≡ (stem_of stems i).link) × (b.joint_name ≡ joint.name)
+  bearer_by i b from h =
+      let s = stem_beside i b h in
+      let borne = o.borne i from s.2 in
+      let named : s.0.joint ≡ Some borne.number = ap (λ (x : Stem). x.joint) (sym s.3) ∙ borne.named in
+      let is : slice_get robot.joints borne.number ≡ Some s.4.is.joint = subst (λ (n : Option ℕ). Bears robot n s.4.is.joint) named s.4.is.pair.joint_is in
+      let same : borne.joint ≡ s.4.is.joint = same_item robot.joints borne.number borne.number borne.joint s.4.is.joint refl borne.is is in
+      (borne.number, borne.joint, borne.is, borne.child, s.4.is.made.joint_name ∙ ap (λ (j : UrdfJoint). j.name) (sym same))
+
+  joint_names : IsRobot robot.links robot.joints → (i j : ℕ) (a b : Body) → i ≢ j → body_at bodies i ≡ Some a → body_at bodies j ≡ Some b →
+      HasOwnJointName i a → HasOwnJointName j b → a.joint_name ≢ b.joint_name
+  joint_names file i j a b other p q own_i own_j same =
+      let s = stem_beside i a p in
+      let t = stem_beside j b q in
+      let x = bearer_by i a (later_number i a p own_i) p in
+      let y = bearer_by j b (later_number j b q own_j) q in
+      let numbers_differ : x.0 ≢ y.0 = λ h.
+      let joints_same = same_item robot.joints x.0 y.0 x.1 y.1 h x.2 y.2 in
+      links_apart i j other s.1 s.2 t.1 t.2 (sym x.3 ∙ (ap (λ (z : UrdfJoint). z.child) joints_same ∙ y.3)) in
+      apart (λ (z : UrdfJoint). z.name) robot.joints x.0 y.0 x.1 y.1 file.joint_names.differ numbers_differ x.2 y.2 (sym x.4 ∙ (same ∙ y.4))
+
+  pub are_bodies : IsRobot robot.links robot.joints → IsFewInAll robot stems → AreBodies bodies
+  are_bodies file few =
+      let n = AllZip-long (IsBodyOf robot) stems bodies e in
+      let columns = AllZip-sum (IsBodyOf robot) (stem_columns robot.joints) own_columns (λ stem body b. b.columns) stems bodies e in
+      let full = AllZip-sum (IsBodyOf robot) (stem_columns robot.joints) full_columns (λ stem body b. full_is_own robot stem body b.is ∙ b.columns) stems bodies e in
       record {
         some = omega (arith, n, o.some);
         few = omega (arith, n, o.count, few.links);
         few_columns = omega (arith, columns, few.columns);
+        few_full = omega (arith, full, few.columns);
+        columns_within = omega (arith, full, columns);
         parents = parent_is_low;
         leads_from = λ i h. omega (arith, leader_is i);
         leads_to = λ i h. omega (arith, leader_is i);
-        kept = Each-right (IsBodyOf robot) IsBodyKept (λ stem body b. b.kept) stems bodies e;
+        follows = λ i body mimic h m. no_mimic body.mimic mimic (stem_beside i body h).4.is.made.mimic m;
+        links = λ i a p j b other q same. link_names file i j a b (λ e. other (sym e)) p q (sym same);
+        joints = λ i a p own_i j b other q own_j same. joint_names file i j a b (λ e. other (sym e)) p q own_i own_j (sym same);
+        kept = each-right (IsBodyOf robot) IsBodyKept (λ stem body b. b.kept) stems bodies e;
       }
 
-pub built : (robot : Robot) (stems : List Stem) (bodies : List Body) (name : List ℕ) → IsOrder robot stems → IsFewInAll robot stems → All IsBuiltJoint robot.joints → AllZip (IsBodyOf robot) stems bodies → name ≡ robot.name → IsBuilt robot (record { name = name; bodies = bodies })
+pub built : (robot : Robot) (stems : List Stem) (bodies : List Body) (name : List ℕ) → IsOrder robot stems → IsFewInAll robot stems → All IsBuildable robot.joints → AllZip (IsBodyOf robot) stems bodies → name ≡ robot.name → IsBuilt robot (record { name = name; bodies = bodies })
 built robot stems bodies name o few joints e n = record {
   name = n;
   order = stems;
   ordered = o;
   few = few;
   joints = joints;
-  bodies = Each-map (IsBodyOf robot) (IsBody robot) (λ stem body b. b.is) stems bodies e;
+  bodies = each-pair (IsBodyOf robot) (IsBody robot) (λ stem body b. b.is) stems bodies e;
 }
 
 -- where the bodies before a place are made and that at the place is refused
-pub refused_there : (robot : Robot) (order : List Stem) (k : ℕ) (stem : Stem) (bodies : List Body) (fault : TreeFault) → IsOrder robot order → IsFewInAll robot order → All IsBuiltJoint robot.joints → slice_get order k ≡ Some stem →
+pub refused_there : (robot : Robot) (order : List Stem) (k : ℕ) (stem : Stem) (bodies : List Body) (fault : TreeFault) → IsOrder robot order → IsFewInAll robot order → All IsBuildable robot.joints → slice_get order k ≡ Some stem →
     AllZip (IsBodyOf robot) (take k order) bodies → (fault ≡ no_memory) ⊎ IsRefused robot stem fault → (fault ≡ no_memory) ⊎ HasConstantFault robot fault
 refused_there robot order k stem bodies fault o few joints h e (inl m) = inl m
 refused_there robot order k stem bodies fault o few joints h e (inr r) =
@@ -186,7 +267,7 @@ refused_there robot order k stem bodies fault o few joints h e (inr r) =
 
 pub one_more : (robot : Robot) (order : List Stem) (k : ℕ) (bodies : List Body) (body : Body) (d : Stem) → k < length order → AllZip (IsBodyOf robot) (take k order) bodies →
     IsBodyOf robot (get_or order k d) body → AllZip (IsBodyOf robot) (take (k + 1) order) (bodies ++ body ∷ [])
-one_more robot order k bodies body d h e b = rw (add-one, take-suc order k d h) (Each-push (IsBodyOf robot) (take k order) bodies (get_or order k d) body e b)
+one_more robot order k bodies body d h e b = rw (add-one, take-suc order k d h) (AllZip-more (IsBodyOf robot) (take k order) bodies (get_or order k d) body e b)
 
 -- a refusal that is handed on
 pub handed_on : {A E : Type 0} (P : E → Type 0) (r : Result A E) (x : E) → IsErrAnd r (λ e. e ≡ x) → P x → IfErr r P

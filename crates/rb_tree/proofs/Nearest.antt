@@ -3,7 +3,7 @@ use Rattle.std.proofs.Common.{◌≡◌, ℕ, zero, suc, ◌==◌, Bool, cond, L
 use Rattle.std.specs.List.{sum_by}
 use Rattle.rb_tree.specs.declared.robot.Body.{Body}
 use Rattle.rb_tree.specs.Columns.{own_columns, parent_at, columns_at, nearest_column}
-use Rattle.rb_tree.specs.Upward.{HasParentsBelow, WorldHasNoColumn, BodyHasItsLast, BodyHasItsParents}
+use Rattle.rb_tree.specs.Laws.{HasParentsBelow, WorldHasNoColumn, BodyHasItsLast, BodyHasItsParents}
 use Rattle.rb_tree.proofs.ColumnLaws.{nearest_open, nearest_enough, nearest_first, not_zero}
 
 step : (bodies : List Body) → HasParentsBelow bodies → (k : ℕ) →

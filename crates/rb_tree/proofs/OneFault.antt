@@ -1,6 +1,5 @@
 -- A robot has at most one first fault.
-use Rattle.std.proofs.Common.{◌≡◌, ◌<◌, ◌≤◌, ◌+◌, ℕ, zero, suc, List, Some, length, take, get_or, sym, ◌∙◌, ap, subst, refl, arith, inl, inr}
-use Rattle.std.specs.Prelude.{slice_get}
+use Rattle.std.proofs.Common.{◌≡◌, ◌<◌, ◌≤◌, ◌+◌, ℕ, zero, suc, List, length, take, get_or, sym, ◌∙◌, ap, subst, refl, arith, inl, inr}
 use Rattle.std.specs.List.{All, sum_by}
 use Rattle.std.proofs.Math.Nat.{eq-or-lt_of_le}
 use Rattle.std.proofs.lemmas.Bool.{cases_order}
@@ -10,12 +9,16 @@ use Rattle.std.proofs.lemmas.List.Sums.{sum_by-take-le}
 use Rattle.rb_urdf.specs.declared.robot.UrdfJoint.{UrdfJoint}
 use Rattle.rb_urdf.specs.declared.robot.UrdfLink.{UrdfLink}
 use Rattle.rb_urdf.specs.Robot.{Robot, IsRobot}
+use Rattle.rb_tree.specs.declared.sizes.TheConstants.{MAX_LINKS}
 use Rattle.rb_tree.specs.declared.order.Stem.{Stem}
 use Rattle.rb_tree.specs.declared.faults.TreeFault.{TreeFault}
 use Rattle.rb_tree.specs.declared.faults.TreeKind.{TreeKind}
 use Rattle.rb_tree.specs.declared.faults.TreeKind.TheVariants.{Unbuilt, TooManyLinks, TwoParents, NoRoot, TwoRoots, Cycle, TooManyColumns, AngleRange, ZeroAxis, Size, Memory}
-use Rattle.rb_tree.specs.Order.{body, IsBuilt, IsChild, Reaches, bearer_of, stem_columns, IsOrder}
-use Rattle.rb_tree.specs.Faults.{HaveOneParent, HasUnbuilt, HasTwoParents, HasNoRoot, HasTwoRoots, HasRootBelow, HasCycle, PassColumns, HasTooManyColumns, IsLinkPlace, IsForest, IsFirstFault, HasOrderFault}
+use Rattle.rb_tree.specs.Order.{stem_of, Reaches, IsOrder, HasCycle, HasTooManyColumns, IsForest, IsFirstFault, HasOrderFault}
+use Rattle.rb_tree.specs.Sizes.{IsBuildable, bearer_of, stem_columns, HasUnbuilt, PassColumns}
+use Rattle.rb_tree.specs.Roots.{IsChild, HaveOneParent, HasTwoParents, HasNoRoot, HasTwoRoots, HasRootBelow}
+use Rattle.rb_tree.specs.Faults.{IsLinkPlace}
+use Rattle.rb_tree.proofs.ListLaws.{same_item}
 use Rattle.rb_tree.proofs.OneOrder.{one_order, twice_below, no_unbuilt, no_too_many_links, no_two_parents, no_no_root, no_cycle, only_root}
 
 -- two places at which the same first thing stands
@@ -23,16 +26,13 @@ same_number : (a b : ℕ) → (a < b → ⊥) → (b < a → ⊥) → a ≡ b
 same_number a b not_less not_more =
     elim (cases_order a b) [ inl e ↦ e | inr o ↦ elim o [ inl lt ↦ absurd (not_less lt) | inr gt ↦ absurd (not_more gt) ] ]
 
-same_item : {X : Type 0} → (xs : List X) (i j : ℕ) (x y : X) → i ≡ j → slice_get xs i ≡ Some x → slice_get xs j ≡ Some y → x ≡ y
-same_item xs i j x y e is_x is_y = same_Some x y (sym is_x ∙ ap (slice_get xs) e ∙ is_y)
-
 unbuilt_below : (joints : List UrdfJoint) (a b : ℕ) (ha : HasUnbuilt joints a) (hb : HasUnbuilt joints b) → ha.number < hb.number → ⊥
 unbuilt_below joints a b ha hb lt =
     let within = slice_get_within joints ha.number ha.joint ha.is in
     let high : ha.number < length (take hb.number joints) = omega (arith, length-take {A = UrdfJoint} hb.number joints) in
     let e : get_or (take hb.number joints) ha.number ha.joint ≡ ha.joint =
     get_or-take hb.number joints ha.number ha.joint lt ∙ get_or_from_slice_get joints ha.number ha.joint ha.joint ha.is in
-    ha.unbuilt (subst IsBuilt e (hb.first ha.number ha.joint high))
+    ha.unbuilt (subst IsBuildable e (hb.first ha.number ha.joint high))
 
 one_unbuilt : (joints : List UrdfJoint) (a b : ℕ) → HasUnbuilt joints a → HasUnbuilt joints b → a ≡ b
 one_unbuilt joints a b ha hb =
@@ -104,8 +104,8 @@ one_too_many robot a b kept ha hb =
 
 -- what a robot has that is not refused at this rank
 Pass : Robot → ℕ → Type 0
-Pass robot zero = All IsBuilt robot.joints
-Pass robot (suc zero) = length robot.links ≤ 256
+Pass robot zero = All IsBuildable robot.joints
+Pass robot (suc zero) = length robot.links ≤ MAX_LINKS
 Pass robot (suc (suc zero)) = HaveOneParent robot.joints
 Pass robot (suc (suc (suc zero))) = HasNoRoot robot → ⊥
 Pass robot (suc (suc (suc (suc zero)))) = (root : ℕ) × HasRootBelow robot.joints (length robot.links) root
@@ -141,17 +141,17 @@ rank ZeroAxis = 7
 rank Size = 7
 rank Memory = 7
 
-kind_at : ℕ → TreeKind
-kind_at zero = Unbuilt
-kind_at (suc zero) = TooManyLinks
-kind_at (suc (suc zero)) = TwoParents
-kind_at (suc (suc (suc zero))) = NoRoot
-kind_at (suc (suc (suc (suc zero)))) = TwoRoots
-kind_at (suc (suc (suc (suc (suc zero))))) = Cycle
-kind_at (suc (suc (suc (suc (suc (suc more)))))) = TooManyColumns
+kind_ranked : ℕ → TreeKind
+kind_ranked zero = Unbuilt
+kind_ranked (suc zero) = TooManyLinks
+kind_ranked (suc (suc zero)) = TwoParents
+kind_ranked (suc (suc (suc zero))) = NoRoot
+kind_ranked (suc (suc (suc (suc zero)))) = TwoRoots
+kind_ranked (suc (suc (suc (suc (suc zero))))) = Cycle
+kind_ranked (suc (suc (suc (suc (suc (suc more)))))) = TooManyColumns
 
-known : (robot : Robot) (kind : TreeKind) (at : ℕ) → IsFirstFault robot kind at → kind ≡ kind_at (rank kind)
-unfolding rank kind_at
+known : (robot : Robot) (kind : TreeKind) (at : ℕ) → IsFirstFault robot kind at → kind ≡ kind_ranked (rank kind)
+unfolding rank kind_ranked
 known robot Unbuilt at h = refl
 known robot TooManyLinks at h = refl
 known robot TwoParents at h = refl
@@ -167,7 +167,7 @@ known robot Memory at h = absurd h
 -- two first faults of one kind
 same_place : (robot : Robot) → IsRobot robot.links robot.joints → (kind : TreeKind) (a b : ℕ) → IsFirstFault robot kind a → IsFirstFault robot kind b → a ≡ b
 same_place robot kept Unbuilt a b ha hb = one_unbuilt robot.joints a b ha hb
-same_place robot kept TooManyLinks a b ha hb = one_link robot.links 256 256 a b refl ha.1 hb.1
+same_place robot kept TooManyLinks a b ha hb = one_link robot.links MAX_LINKS MAX_LINKS a b refl ha.1 hb.1
 same_place robot kept TwoParents a b ha hb = one_second_parent robot.joints a b ha.1 hb.1
 same_place robot kept NoRoot a b ha hb = ha.2 ∙ sym hb.2
 same_place robot kept TwoRoots a b ha hb = one_second_root robot a b ha.1 hb.1
@@ -218,7 +218,7 @@ passes robot kept Cycle at h =
 passes robot kept TooManyColumns at h =
     let many = h.1 in
     let only = only_root robot many.stems kept many.order in
-    (((forest_passes robot h.0, no_no_root robot many.stems kept many.order), ((body many.stems 1).link, only)), (many.stems, many.order))
+    (((forest_passes robot h.0, no_no_root robot many.stems kept many.order), ((stem_of many.stems 1).link, only)), (many.stems, many.order))
 passes robot kept AngleRange at h = absurd h
 passes robot kept ZeroAxis at h = absurd h
 passes robot kept Size at h = absurd h
@@ -229,7 +229,7 @@ one_fault robot a b kept ha hb =
     let ranks : rank a.kind ≡ rank b.kind = same_number (rank a.kind) (rank b.kind)
     (λ lt. clash robot kept a.kind a.at ha.1 (pass_at robot (rank b.kind) (rank a.kind) (passes robot kept b.kind b.at hb.1) lt))
     (λ gt. clash robot kept b.kind b.at hb.1 (pass_at robot (rank a.kind) (rank b.kind) (passes robot kept a.kind a.at ha.1) gt)) in
-    let kinds : a.kind ≡ b.kind = known robot a.kind a.at ha.1 ∙ ap kind_at ranks ∙ sym (known robot b.kind b.at hb.1) in
+    let kinds : a.kind ≡ b.kind = known robot a.kind a.at ha.1 ∙ ap kind_ranked ranks ∙ sym (known robot b.kind b.at hb.1) in
     let P : TreeKind → Type 0 = λ k. IsFirstFault robot k a.at in
     let places = same_place robot kept b.kind a.at b.at (subst P kinds ha.1) hb.1 in
     ap (λ x. let f : TreeFault = record { kind = x; file = a.file; at = a.at } in f) kinds

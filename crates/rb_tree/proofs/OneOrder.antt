@@ -10,13 +10,16 @@ use Rattle.std.proofs.lemmas.List.{ext_get_or, length-take, length-take-le, get_
 use Rattle.std.proofs.lemmas.List.Elements.{All-from_recursion}
 use Rattle.rb_urdf.specs.declared.robot.UrdfJoint.{UrdfJoint}
 use Rattle.rb_urdf.specs.Robot.{Robot, IsRobot, IsJointKept}
+use Rattle.rb_tree.specs.declared.sizes.TheConstants.{MAX_LINKS, MAX_COLUMNS}
 use Rattle.rb_tree.specs.declared.order.Stem.{Stem}
-use Rattle.rb_tree.specs.Order.{body, no_stem, IsBuilt, IsChild, Reaches, stem_columns, IsOrder}
-use Rattle.rb_tree.specs.Part.{stem_at, up_of, down_of, link_of, parent_of, joint_of, HasLink, IsPart, IsPlaced, IsGrown}
+use Rattle.rb_tree.specs.Order.{stem_of, no_stem, Reaches, IsOrder, HasCycle, HasTooManyColumns, IsFewInAll, IsFirstFault, HasOrderFault}
+use Rattle.rb_tree.specs.Sizes.{IsBuildable, stem_columns, HasUnbuilt}
+use Rattle.rb_tree.specs.Roots.{IsChild, HaveOneParent, HasTwoParents, HasNoRoot, HasTwoRoots, HasRootBelow}
+use Rattle.rb_tree.specs.Grow.{stem_at, parent_link, child_link, link_of, parent_of, joint_of, HasLink, IsPart, IsPlaced, IsGrown}
 use Rattle.rb_tree.specs.declared.faults.TreeFault.{TreeFault}
 use Rattle.rb_tree.specs.declared.faults.TreeKind.{TreeKind}
 use Rattle.rb_tree.specs.declared.faults.TreeKind.TheVariants.{Unbuilt, TooManyLinks, TwoParents, NoRoot, TwoRoots, Cycle, TooManyColumns, AngleRange, ZeroAxis, Size, Memory}
-use Rattle.rb_tree.specs.Faults.{HaveOneParent, HasUnbuilt, HasTwoParents, HasNoRoot, HasTwoRoots, HasRootBelow, HasCycle, HasTooManyColumns, IsLinkPlace, IsFewInAll, IsFirstFault, HasOrderFault}
+use Rattle.rb_tree.specs.Faults.{IsLinkPlace}
 use Rattle.rb_tree.proofs.Stems.{read_same, joint_at, down_read, down_below}
 use Rattle.rb_tree.proofs.Ways.{contains_at}
 use Rattle.rb_tree.proofs.Ordered.{placed_reached}
@@ -28,11 +31,11 @@ children_of robot kept =
     let all : All (IsJointKept robot.links robot.joints) robot.joints = All-from_recursion (IsJointKept robot.links robot.joints) robot.joints kept.fits in
     λ k d within. (all k d within).child
 
-down_at : (joints : List UrdfJoint) (j : ℕ) (d : UrdfJoint) → j < length joints → down_of joints j ≡ (get_or joints j d).child
+down_at : (joints : List UrdfJoint) (j : ℕ) (d : UrdfJoint) → j < length joints → child_link joints j ≡ (get_or joints j d).child
 down_at joints j d within = down_read joints j (get_or joints j d) within (read_same joints j d (get_or joints j d) within)
 
 -- joints with one child are one
-one_joint : (joints : List UrdfJoint) → HaveOneParent joints → (i j : ℕ) → i < length joints → j < length joints → down_of joints i ≡ down_of joints j → i ≡ j
+one_joint : (joints : List UrdfJoint) → HaveOneParent joints → (i j : ℕ) → i < length joints → j < length joints → child_link joints i ≡ child_link joints j → i ≡ j
 one_joint joints one i j iq jq same =
     let d = (joint_at joints i iq).joint in
     let e : (get_or joints i d).child ≡ (get_or joints j d).child = sym (down_at joints i d iq) ∙ same ∙ down_at joints j d jq in
@@ -90,22 +93,22 @@ one_order robot a b kept oa ob =
     let gb = grown_order robot b children ob in
     let all = all_placed robot a children oa in
     let all' = all_placed robot b children ob in
-    let root_a = (body a 1).link in
+    let root_a = (stem_of a 1).link in
     let some_a = oa.some in
     let root_there : root_a < n = oa.there 1 (omega arith) (omega arith) in
-    let same : root_a ≡ (body b 1).link = childless_root robot (body b 1).link b gb root_a (all' root_a root_there) oa.root.no_child in
+    let same : root_a ≡ (stem_of b 1).link = childless_root robot (stem_of b 1).link b gb root_a (all' root_a root_there) oa.root.no_child in
     let q = length joints in
-    let PA : ℕ → Type 0 = λ m. IsPart q (up_of joints) (down_of joints) m (link_of a) (parent_of a) (joint_of a) in
-    let PB : ℕ → Type 0 = λ m. IsPart q (up_of joints) (down_of joints) m (link_of b) (parent_of b) (joint_of b) in
+    let PA : ℕ → Type 0 = λ m. IsPart q (parent_link joints) (child_link joints) m (link_of a) (parent_of a) (joint_of a) in
+    let PB : ℕ → Type 0 = λ m. IsPart q (parent_link joints) (child_link joints) m (link_of b) (parent_of b) (joint_of b) in
     let LA : ℕ → Type 0 = λ m. (l : ℕ) → l < n → IsPlaced m (link_of a) l in
     let LB : ℕ → Type 0 = λ m. (l : ℕ) → l < n → IsPlaced m (link_of b) l in
     let count_a = oa.count in
     let count_b = ob.count in
-    let agrees = agree q n (up_of joints) (down_of joints) (λ j h. down_below joints n j children h) (one_joint joints oa.one_parent)
+    let agrees = agree q n (parent_link joints) (child_link joints) (λ j h. down_below joints n j children h) (one_joint joints oa.one_parent)
     (link_of a) (parent_of a) (joint_of a) (link_of b) (parent_of b) (joint_of b) (subst PA count_a ga.part) (subst PB count_b gb.part)
     (subst LA count_a all) (subst LB count_b all') same in
     ext_get_or no_stem a b (count_a ∙ sym count_b) (λ k ka.
-    stems_agree robot root_a (body b 1).link a b ga gb same k ka (omega arith) (agrees n (omega arith) k (omega arith)))
+    stems_agree robot root_a (stem_of b 1).link a b ga gb same k ka (omega arith) (agrees n (omega arith) k (omega arith)))
 
 -- a joint whose child an earlier joint has stands not among joints of which no two have one child
 pub twice_below : (joints : List UrdfJoint) (number end : ℕ) (joint : UrdfJoint) → slice_get joints number ≡ Some joint → IsChild (take number joints) joint.child →
@@ -122,13 +125,13 @@ twice_below joints number end joint is twice low one =
     get_or-take end joints number earlier low ∙ get_or_from_slice_get joints number joint earlier is in
     one j number earlier lt high (ap (λ x. x.child) first ∙ twice.4 ∙ ap (λ x. x.child) (sym second))
 
-pub no_unbuilt : (robot : Robot) (at : ℕ) → All IsBuilt robot.joints → HasUnbuilt robot.joints at → ⊥
+pub no_unbuilt : (robot : Robot) (at : ℕ) → All IsBuildable robot.joints → HasUnbuilt robot.joints at → ⊥
 no_unbuilt robot at built h =
     let within = slice_get_within robot.joints h.number h.joint h.is in
-    h.unbuilt (subst IsBuilt (get_or_from_slice_get robot.joints h.number h.joint h.joint h.is) (built h.number h.joint within))
+    h.unbuilt (subst IsBuildable (get_or_from_slice_get robot.joints h.number h.joint h.joint h.is) (built h.number h.joint within))
 
-pub no_too_many_links : (robot : Robot) (at : ℕ) → length robot.links ≤ 256 → IsLinkPlace robot.links 256 at → ⊥
-no_too_many_links robot at few h = let within = slice_get_within robot.links 256 h.link h.is in omega arith
+pub no_too_many_links : (robot : Robot) (at : ℕ) → length robot.links ≤ MAX_LINKS → IsLinkPlace robot.links MAX_LINKS at → ⊥
+no_too_many_links robot at few h = let within = slice_get_within robot.links MAX_LINKS h.link h.is in omega arith
 
 pub no_two_parents : (robot : Robot) (at : ℕ) → HaveOneParent robot.joints → HasTwoParents robot.joints at → ⊥
 no_two_parents robot at one h =
@@ -137,27 +140,27 @@ no_two_parents robot at one h =
 
 -- a robot with an order has no fault of the root
 module _ (robot : Robot) (stems : List Stem) (kept : IsRobot robot.links robot.joints) (order : IsOrder robot stems) where
-  grown : IsGrown robot.joints (length robot.links) (body stems 1).link stems
+  grown : IsGrown robot.joints (length robot.links) (stem_of stems 1).link stems
   grown = grown_order robot stems (children_of robot kept) order
 
   placed : (link : ℕ) → link < length robot.links → HasLink stems link
   placed = all_placed robot stems (children_of robot kept) order
 
-  root_there : (body stems 1).link < length robot.links
+  root_there : (stem_of stems 1).link < length robot.links
   root_there = let some = order.some in order.there 1 (omega arith) (omega arith)
 
   pub no_no_root : HasNoRoot robot → ⊥
-  no_no_root all = order.root.no_child (all (body stems 1).link root_there)
+  no_no_root all = order.root.no_child (all (stem_of stems 1).link root_there)
 
-  is_root : (link : ℕ) → link < length robot.links → (IsChild robot.joints link → ⊥) → link ≡ (body stems 1).link
-  is_root link within no_child = childless_root robot (body stems 1).link stems grown link (placed link within) no_child
+  is_root : (link : ℕ) → link < length robot.links → (IsChild robot.joints link → ⊥) → link ≡ (stem_of stems 1).link
+  is_root link within no_child = childless_root robot (stem_of stems 1).link stems grown link (placed link within) no_child
 
   -- the root's link, and no other, is no child
-  pub only_root : HasRootBelow robot.joints (length robot.links) (body stems 1).link
+  pub only_root : HasRootBelow robot.joints (length robot.links) (stem_of stems 1).link
   only_root = record {
     within = root_there;
     no_child = order.root.no_child;
-    only = λ link within other. elim (child_or_root robot (body stems 1).link stems grown link (placed link within)) [
+    only = λ link within other. elim (child_or_root robot (stem_of stems 1).link stems grown link (placed link within)) [
       | inl e ↦ absurd (other e)
       | inr child ↦ child
     ];
@@ -175,17 +178,17 @@ module _ (robot : Robot) (stems : List Stem) (kept : IsRobot robot.links robot.j
   no_cycle at h =
       let within = slice_get_within robot.links h.number h.is.link h.is.is in
       let From : ℕ → Type 0 = λ r. Reaches robot.joints r h.number in
-      let e : h.root ≡ (body stems 1).link = is_root h.root h.only.within h.only.no_child in
-      h.apart (subst From (sym e) (placed_reached robot.joints (length robot.links) (body stems 1).link stems grown h.number (placed h.number within)))
+      let e : h.root ≡ (stem_of stems 1).link = is_root h.root h.only.within h.only.no_child in
+      h.apart (subst From (sym e) (placed_reached robot.joints (length robot.links) (stem_of stems 1).link stems grown h.number (placed h.number within)))
 
-  no_too_many_columns : (at : ℕ) → sum_by (stem_columns robot.joints) stems ≤ 64 → HasTooManyColumns robot at → ⊥
+  no_too_many_columns : (at : ℕ) → sum_by (stem_columns robot.joints) stems ≤ MAX_COLUMNS → HasTooManyColumns robot at → ⊥
   no_too_many_columns at few h =
       let e : h.stems ≡ stems = one_order robot h.stems stems kept h.order order in
       let total : sum_by (stem_columns robot.joints) h.stems ≡ sum_by (stem_columns robot.joints) stems = ap (sum_by (stem_columns robot.joints)) e in
       let passed = h.pass.passed in
       omega (arith, total, sum_by-take-le (stem_columns robot.joints) h.stems (h.pass.number + 1))
 
-  no_fault : (kind : TreeKind) (at : ℕ) → All IsBuilt robot.joints → IsFewInAll robot stems → IsFirstFault robot kind at → ⊥
+  no_fault : (kind : TreeKind) (at : ℕ) → All IsBuildable robot.joints → IsFewInAll robot stems → IsFirstFault robot kind at → ⊥
   no_fault Unbuilt at built few h = no_unbuilt robot at built h
   no_fault TooManyLinks at built few h = no_too_many_links robot at few.links h.1
   no_fault TwoParents at built few h = no_two_parents robot at order.one_parent h.1
@@ -199,5 +202,5 @@ module _ (robot : Robot) (stems : List Stem) (kept : IsRobot robot.links robot.j
   no_fault Memory at built few h = h
 
 pub fault_excludes : (robot : Robot) (fault : TreeFault) (stems : List Stem) → IsRobot robot.links robot.joints → HasOrderFault robot fault →
-    IsOrder robot stems → All IsBuilt robot.joints → IsFewInAll robot stems → ⊥
+    IsOrder robot stems → All IsBuildable robot.joints → IsFewInAll robot stems → ⊥
 fault_excludes robot fault stems kept h order built few = no_fault robot stems kept order fault.kind fault.at built few h.1

@@ -12,20 +12,17 @@ use Rattle.rb_tree.specs.declared.faults.TreeFault.{TreeFault}
 use Rattle.rb_tree.specs.declared.order.Stem.{Stem}
 use Rattle.rb_tree.specs.declared.robot.Body.{Body}
 use Rattle.rb_tree.specs.Robot.{Tree}
-use Rattle.rb_tree.specs.Build.{Bears, IsMadeOf, IsBody, IsBuilt, IsRefusedAt, IsRefused, HasConstants, HasConstantFault, HasFault, inertia_made, joint_made}
-use Rattle.rb_tree.proofs.ListLaws.{All-at}
+use Rattle.rb_tree.specs.Build.{Bears, IsBody, IsBuilt, IsRefused, HasConstants, HasConstantFault, HasFault}
+use Rattle.rb_tree.specs.Parts.{IsMadeOf, IsRefusedAt, joint_made}
+use Rattle.rb_result.proofs.Results.{same_ok, same_err}
+use Rattle.rb_urdf.proofs.Zips.{beside}
+use Rattle.rb_tree.proofs.ListLaws.{All-at, same_item}
 use Rattle.rb_tree.proofs.OneOrder.{one_order, fault_excludes}
 use Rattle.rb_tree.proofs.OneFault.{one_fault}
 
 one_joint : (robot : Robot) (o : Option ℕ) (a b : UrdfJoint) → Bears robot o a → Bears robot o b → a ≡ b
 one_joint robot None a b p q = p ∙ sym q
 one_joint robot (Some number) a b p q = cc
-
-one_link : (links : List UrdfLink) (k : ℕ) (a b : UrdfLink) → slice_get links k ≡ Some a → slice_get links k ≡ Some b → a ≡ b
-one_link links k a b p q = cc
-
-same_ok : {A : Type 0} (x y : A) → ◌≡◌ {A = Result A TreeFault} (Ok x) (Ok y) → x ≡ y
-same_ok x y h = cc
 
 made_once : (link : UrdfLink) (joint : UrdfJoint) (a b : Body) → IsMadeOf link joint a → IsMadeOf link joint b → a.parent ≡ b.parent → a ≡ b
 made_once link joint a b p q e =
@@ -50,7 +47,7 @@ made_once link joint a b p q e =
 
 one_body : (robot : Robot) (stem : Stem) (a b : Body) → IsBody robot stem a → IsBody robot stem b → a ≡ b
 one_body robot stem a b p q =
-    let l = one_link robot.links stem.link q.link p.link q.pair.link_is p.pair.link_is in
+    let l = same_item robot.links stem.link stem.link q.link p.link refl q.pair.link_is p.pair.link_is in
     let j = one_joint robot stem.joint q.joint p.joint q.pair.joint_is p.pair.joint_is in
     let L : UrdfLink → Type 0 = λ link. IsMadeOf link q.joint b in
     let J : UrdfJoint → Type 0 = λ joint. IsMadeOf p.link joint b in
@@ -75,20 +72,6 @@ built_once robot a b kept p q =
     let name = p.name ∙ sym q.name in
     λ i. record { name = name i; bodies = bodies i }
 
--- the partner of an item of the first list
-record HasMate {A B : Type 0} (R : A → B → Type 0) (x : A) : Type 0 where
-  mate : B
-  related : R x mate
-
-mate_at : {A B : Type 0} (R : A → B → Type 0) (xs : List A) (ys : List B) (k : ℕ) (x : A) → AllZip R xs ys → slice_get xs k ≡ Some x → HasMate R x
-mate_at R [] ys k x e h = cc
-mate_at R (a ∷ xs) [] k x e h = absurd e
-mate_at {A = A} R (a ∷ xs) (b ∷ ys) zero x e h =
-    let s : a ≡ x = cc in
-    let Q : A → Type 0 = λ z. R z b in
-    record { mate = b; related = subst Q s e.0 }
-mate_at R (a ∷ xs) (b ∷ ys) (suc k) x e h = mate_at R xs ys k x e.1 h
-
 not_refused : (link : UrdfLink) (joint : UrdfJoint) (body : Body) (fault : TreeFault) → IsMadeOf link joint body → IsRefusedAt link joint fault → ⊥
 not_refused link joint body fault made (inl refused) = let e = made.model in cc
 not_refused link joint body fault made (inr refused) = let e = made.inertia in let h = refused.1 in cc
@@ -97,12 +80,12 @@ constants_exclude : (robot : Robot) (fault : TreeFault) (tree : Tree) → IsRobo
 constants_exclude robot fault tree kept f t =
     let o = one_order robot t.order f.order kept t.ordered f.ordered in
     let E : List Stem → Type 0 = λ stems. AllZip (IsBody robot) stems tree.bodies in
-    let m = mate_at (IsBody robot) f.order tree.bodies f.number f.stem (subst E o t.bodies) f.is in
-    let l = one_link robot.links f.stem.link m.related.link f.refused.link m.related.pair.link_is f.refused.pair.link_is in
-    let j = one_joint robot f.stem.joint m.related.joint f.refused.joint m.related.pair.joint_is f.refused.pair.joint_is in
-    let L : UrdfLink → Type 0 = λ link. IsMadeOf link m.related.joint m.mate in
-    let J : UrdfJoint → Type 0 = λ joint. IsMadeOf f.refused.link joint m.mate in
-    not_refused f.refused.link f.refused.joint m.mate fault (subst J j (subst L l m.related.made)) f.refused.refused
+    let m = beside (IsBody robot) f.order tree.bodies (subst E o t.bodies) f.number f.stem f.is in
+    let l = same_item robot.links f.stem.link f.stem.link m.2.link f.refused.link refl m.2.pair.link_is f.refused.pair.link_is in
+    let j = one_joint robot f.stem.joint m.2.joint f.refused.joint m.2.pair.joint_is f.refused.pair.joint_is in
+    let L : UrdfLink → Type 0 = λ link. IsMadeOf link m.2.joint m.0 in
+    let J : UrdfJoint → Type 0 = λ joint. IsMadeOf f.refused.link joint m.0 in
+    not_refused f.refused.link f.refused.joint m.0 fault (subst J j (subst L l m.2.made)) f.refused.refused
 
 pub faults_exclude : (robot : Robot) (fault : TreeFault) (tree : Tree) → IsRobot robot.links robot.joints → HasFault robot fault → IsBuilt robot tree → ⊥
 faults_exclude robot fault tree kept (inl f) t = fault_excludes robot fault t.order kept f t.ordered t.joints t.few
@@ -118,7 +101,7 @@ slice_get-take (suc n) (x ∷ xs) (suc k) h = slice_get-take n xs k (omega arith
 -- what has constants is not refused
 made_not_refused : (robot : Robot) (stem : Stem) (body : Body) (fault : TreeFault) → IsBody robot stem body → IsRefused robot stem fault → ⊥
 made_not_refused robot stem body fault b r =
-    let l = one_link robot.links stem.link b.link r.link b.pair.link_is r.pair.link_is in
+    let l = same_item robot.links stem.link stem.link b.link r.link refl b.pair.link_is r.pair.link_is in
     let j = one_joint robot stem.joint b.joint r.joint b.pair.joint_is r.pair.joint_is in
     let L : UrdfLink → Type 0 = λ link. IsMadeOf link b.joint body in
     let J : UrdfJoint → Type 0 = λ joint. IsMadeOf r.link joint body in
@@ -130,22 +113,19 @@ earlier robot order i j stem fault h is r before =
     let made = All-at (HasConstants robot) (take j order) i stem before (slice_get-take j order i h ∙ is) in
     made_not_refused robot stem made.0 fault made.1 r
 
-one_error : {A : Type 0} (r : Result A TreeFault) (x y : TreeFault) → r ≡ Err x → r ≡ Err y → x ≡ y
-one_error r x y p q = cc
-
 error_not_ok : {A : Type 0} (r : Result A TreeFault) (x : TreeFault) → r ≡ Err x → IsOk r → ⊥
 error_not_ok (Ok a) x e h = cc
 error_not_ok (Err y) x e h = let f : false ≡ true = h in cc
 
 refused_once : (link : UrdfLink) (joint : UrdfJoint) (x y : TreeFault) → IsRefusedAt link joint x → IsRefusedAt link joint y → x ≡ y
-refused_once link joint x y (inl p) (inl q) = one_error (joint_made joint) x y p q
+refused_once link joint x y (inl p) (inl q) = same_err x y (sym p ∙ q)
 refused_once link joint x y (inl p) (inr q) = absurd (error_not_ok (joint_made joint) x p q.0)
 refused_once link joint x y (inr p) (inl q) = absurd (error_not_ok (joint_made joint) y q p.0)
-refused_once link joint x y (inr p) (inr q) = one_error (inertia_made link) x y p.1 q.1
+refused_once link joint x y (inr p) (inr q) = same_err x y (sym p.1 ∙ q.1)
 
 same_stem : (robot : Robot) (stem : Stem) (x y : TreeFault) → IsRefused robot stem x → IsRefused robot stem y → x ≡ y
 same_stem robot stem x y p q =
-    let l = one_link robot.links stem.link q.link p.link q.pair.link_is p.pair.link_is in
+    let l = same_item robot.links stem.link stem.link q.link p.link refl q.pair.link_is p.pair.link_is in
     let j = one_joint robot stem.joint q.joint p.joint q.pair.joint_is p.pair.joint_is in
     let L : UrdfLink → Type 0 = λ link. IsRefusedAt link q.joint y in
     let J : UrdfJoint → Type 0 = λ joint. IsRefusedAt p.link joint y in

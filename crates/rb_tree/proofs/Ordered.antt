@@ -7,9 +7,9 @@ use Rattle.rb_urdf.specs.declared.robot.UrdfJoint.{UrdfJoint}
 use Rattle.rb_urdf.specs.declared.robot.UrdfLink.{UrdfLink}
 use Rattle.rb_urdf.specs.Robot.{Robot}
 use Rattle.rb_tree.specs.declared.order.Stem.{Stem}
-use Rattle.rb_tree.specs.Order.{body, climbed, IsChild, Reaches, IsAtOrAbove, IsRoot, IsBorne, IsOrder}
-use Rattle.rb_tree.specs.Part.{stem_at, AreNumbered, link_of, parent_of, joint_of, HasLink, IsGrown, IsClosed, IsFirstApart}
-use Rattle.rb_tree.specs.Faults.{HaveOneParent, HasRootBelow, HasCycle}
+use Rattle.rb_tree.specs.Order.{stem_of, climbed, Reaches, IsAtOrAbove, IsRoot, IsBorne, IsOrder, HasCycle}
+use Rattle.rb_tree.specs.Roots.{IsChild, HaveOneParent, HasRootBelow}
+use Rattle.rb_tree.specs.Grow.{stem_at, AreNumbered, link_of, parent_of, joint_of, HasLink, IsGrown, IsClosed, IsFirstApart}
 use Rattle.rb_tree.proofs.Stems.{joint_at}
 use Rattle.rb_tree.proofs.Growth.{grown_all}
 use Rattle.rb_tree.proofs.Ways.{way_placed, body_reached}
@@ -31,23 +31,23 @@ climbs stems numbered earlier (suc most) k above small low within nested =
     ]
 
 -- a body with a number from 1
-at_number : (stems : List Stem) (k : ℕ) → body stems (k + 1) ≡ stem_at stems k
-at_number stems k = ap (body stems) (add-one k)
+at_number : (stems : List Stem) (k : ℕ) → stem_of stems (k + 1) ≡ stem_at stems k
+at_number stems k = ap (stem_of stems) (add-one k)
 
 module _ (robot : Robot) (root : ℕ) (stems : List Stem) (grown : IsGrown robot.joints (length robot.links) root stems)
     (only : HasRootBelow robot.joints (length robot.links) root) where
-  there_by : (number : ℕ) → 0 < number → number ≤ length stems → (body stems number).link < length robot.links
+  there_by : (number : ℕ) → 0 < number → number ≤ length stems → (stem_of stems number).link < length robot.links
   unfolding link_of
   there_by zero low high = absurd (omega arith)
   there_by (suc k) low high = grown.there k (omega arith)
 
-  once_by : (a b : ℕ) → 0 < a → a < b → b ≤ length stems → (body stems a).link ≢ (body stems b).link
+  once_by : (a b : ℕ) → 0 < a → a < b → b ≤ length stems → (stem_of stems a).link ≢ (stem_of stems b).link
   unfolding link_of
   once_by zero b low ab high = absurd (omega arith)
   once_by (suc i) zero low ab high = absurd (omega arith)
   once_by (suc i) (suc k) low ab high = grown.part.once i k (omega arith) (omega arith)
 
-  root_by : IsRoot robot.joints (body stems 1)
+  root_by : IsRoot robot.joints (stem_of stems 1)
   root_by =
       let Child : ℕ → Type 0 = λ link. IsChild robot.joints link in
       record {
@@ -56,15 +56,15 @@ module _ (robot : Robot) (root : ℕ) (stems : List Stem) (grown : IsGrown robot
         world = ap (λ s. s.parent) grown.root_is;
       }
 
-  borne_by : (number : ℕ) → 1 < number → number ≤ length stems → IsBorne robot.joints (body stems number) (body stems (body stems number).parent)
+  borne_by : (number : ℕ) → 1 < number → number ≤ length stems → IsBorne robot.joints (stem_of stems number) (stem_of stems (stem_of stems number).parent)
   unfolding link_of
   borne_by zero low high = absurd (omega arith)
   borne_by (suc k) low high =
       let within : k < length stems = omega arith in
       let later : 0 < k = omega arith in
       let j = joint_at robot.joints (joint_of stems k) (grown.part.bearer k later within) in
-      let above : body stems (stem_at stems k).parent ≡ stem_at stems (parent_of stems k) =
-      ap (body stems) (grown.numbered.later k later within) ∙ at_number stems (parent_of stems k) in
+      let above : stem_of stems (stem_at stems k).parent ≡ stem_at stems (parent_of stems k) =
+      ap (stem_of stems) (grown.numbered.later k later within) ∙ at_number stems (parent_of stems k) in
       record {
         number = joint_of stems k;
         joint = j.joint;
@@ -74,26 +74,26 @@ module _ (robot : Robot) (root : ℕ) (stems : List Stem) (grown : IsGrown robot
         parent_is = sym j.up_is ∙ grown.part.parent k later within ∙ ap (λ s. s.link) (sym above);
       }
 
-  parent_by : (number : ℕ) → 1 < number → number ≤ length stems → (0 < (body stems number).parent) × ((body stems number).parent < number)
+  parent_by : (number : ℕ) → 1 < number → number ≤ length stems → (0 < (stem_of stems number).parent) × ((stem_of stems number).parent < number)
   parent_by zero low high = absurd (omega arith)
   parent_by (suc k) low high =
       let is = grown.numbered.later k (omega arith) (omega arith) in
       let before = grown.part.earlier k (omega arith) (omega arith) in
       (omega arith, omega arith)
 
-  depth_by : (number : ℕ) → 0 < number → number < length stems → IsAtOrAbove stems (body stems (number + 1)).parent number
+  depth_by : (number : ℕ) → 0 < number → number < length stems → IsAtOrAbove stems (stem_of stems (number + 1)).parent number
   depth_by zero low high = absurd (omega arith)
   depth_by (suc k) low high =
       let next : suc k < length stems = omega arith in
       let before = grown.part.earlier (suc k) (omega arith) next in
-      let is : (body stems (suc k + 1)).parent ≡ parent_of stems (suc k) + 1 =
+      let is : (stem_of stems (suc k + 1)).parent ≡ parent_of stems (suc k) + 1 =
       ap (λ s. s.parent) (at_number stems (suc k)) ∙ grown.numbered.later (suc k) (omega arith) next in
       let P : ℕ → Type 0 = λ n. IsAtOrAbove stems n (suc k) in
       subst P (sym is) (climbs stems grown.numbered grown.part.earlier k k (parent_of stems (suc k)) (omega arith) (omega arith) (omega arith)
       (λ i lo hi. grown.part.nested i (suc k) next lo (omega arith)))
 
-  file_by : (a b first second : ℕ) → 1 < a → a < b → b ≤ length stems → (body stems a).parent ≡ (body stems b).parent →
-      (body stems a).joint ≡ Some first → (body stems b).joint ≡ Some second → first < second
+  file_by : (a b first second : ℕ) → 1 < a → a < b → b ≤ length stems → (stem_of stems a).parent ≡ (stem_of stems b).parent →
+      (stem_of stems a).joint ≡ Some first → (stem_of stems b).joint ≡ Some second → first < second
   unfolding joint_of
   file_by zero b first second low ab high same fa fb = absurd (omega arith)
   file_by (suc i) zero first second low ab high same fa fb = absurd (omega arith)

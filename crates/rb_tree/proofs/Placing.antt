@@ -2,7 +2,7 @@
 use Rattle.std.proofs.Common.{◌≡◌, ◌≢◌, ◌<◌, ◌≤◌, ◌+◌, ◌⊎◌, ℕ, inl, inr, sym, ◌∙◌, ap, subst, arith}
 use Rattle.std.proofs.Math.Nat.{eq-or-lt_of_le}
 use Rattle.std.proofs.lemmas.Bool.{cases_order}
-use Rattle.rb_tree.specs.Part.{IsPlaced, IsFull, IsNext, IsPart}
+use Rattle.rb_tree.specs.Grow.{IsPlaced, IsFull, IsNext, IsPart}
 
 pub below_or_last : (k m : ℕ) → k < m + 1 → (k < m) ⊎ (k ≡ m)
 below_or_last k m h =

@@ -12,8 +12,7 @@ use Rattle.rb_urdf.specs.Robot.{Robot}
 use Rattle.rb_tree.specs.declared.faults.TreeFault.{TreeFault}
 use Rattle.rb_tree.specs.declared.faults.TreeKind.TheVariants.{NoRoot, TwoRoots}
 use Rattle.rb_tree.specs.declared.faults.WhichFile.TheVariants.{Urdf}
-use Rattle.rb_tree.specs.Order.{IsChild}
-use Rattle.rb_tree.specs.Faults.{HaveOneParent, IsRootFrom, HasRootBelow, HasRootFault}
+use Rattle.rb_tree.specs.Roots.{IsChild, HaveOneParent, IsRootFrom, HasRootBelow, HasRootFault}
 use Rattle.rb_tree.proofs.Stems.{read_same}
 
 pub parents_more : (joints : List UrdfJoint) (n : ℕ) (joint : UrdfJoint) → n < length joints → joint ≡ get_or joints n joint →

@@ -8,7 +8,7 @@ use Rattle.std.proofs.Math.Seq.{get_or-append_seam}
 use Rattle.rb_urdf.specs.declared.robot.UrdfJoint.{UrdfJoint}
 use Rattle.rb_tree.specs.declared.order.Stem.{Stem}
 use Rattle.rb_tree.specs.Order.{no_stem}
-use Rattle.rb_tree.specs.Part.{stem_at, up_of, down_of, link_of, parent_of, joint_of, HasLink}
+use Rattle.rb_tree.specs.Grow.{stem_at, parent_link, child_link, link_of, parent_of, joint_of, HasLink}
 use Rattle.rb_tree.proofs.Placing.{Extends}
 
 -- an item that is there is read the same with any other value in place of what is missing
@@ -18,12 +18,12 @@ read_same xs i d e h = get_or_from_slice_get xs i (get_or xs i e) d (slice_get-g
 pub body_read : (stems : List Stem) (k : ℕ) (stem : Stem) → k < length stems → stem ≡ get_or stems k stem → stem_at stems k ≡ stem
 body_read stems k stem h is = read_same stems k no_stem stem h ∙ sym is
 
-pub up_read : (joints : List UrdfJoint) (j : ℕ) (joint : UrdfJoint) → j < length joints → joint ≡ get_or joints j joint → up_of joints j ≡ joint.parent
-unfolding up_of
+pub up_read : (joints : List UrdfJoint) (j : ℕ) (joint : UrdfJoint) → j < length joints → joint ≡ get_or joints j joint → parent_link joints j ≡ joint.parent
+unfolding parent_link
 up_read joints j joint h is = get_or-map (λ x. x.parent) joints j joint 0 h ∙ ap (λ x. x.parent) (sym is)
 
-pub down_read : (joints : List UrdfJoint) (j : ℕ) (joint : UrdfJoint) → j < length joints → joint ≡ get_or joints j joint → down_of joints j ≡ joint.child
-unfolding down_of
+pub down_read : (joints : List UrdfJoint) (j : ℕ) (joint : UrdfJoint) → j < length joints → joint ≡ get_or joints j joint → child_link joints j ≡ joint.child
+unfolding child_link
 down_read joints j joint h is = get_or-map (λ x. x.child) joints j joint 0 h ∙ ap (λ x. x.child) (sym is)
 
 pub placed_from_any : (stems : List Stem) (link : ℕ) → Any (λ stem. stem.link ≡ link) stems → HasLink stems link
@@ -74,8 +74,8 @@ joints_extend stems stem v e = record {
 pub record JointAt (joints : List UrdfJoint) (number : ℕ) : Type 0 where
   pub joint : UrdfJoint
   pub is : slice_get joints number ≡ Some joint
-  pub up_is : up_of joints number ≡ joint.parent
-  pub down_is : down_of joints number ≡ joint.child
+  pub up_is : parent_link joints number ≡ joint.parent
+  pub down_is : child_link joints number ≡ joint.child
 
 pub joint_at : (joints : List UrdfJoint) (number : ℕ) → number < length joints → JointAt joints number
 joint_at joints number h =
@@ -89,7 +89,7 @@ joint_at joints number h =
       | inr past ↦ absurd (let p = past.0 in omega arith)
     ]
 
-pub down_below : (joints : List UrdfJoint) (links number : ℕ) → All (λ joint. joint.child < links) joints → number < length joints → down_of joints number < links
+pub down_below : (joints : List UrdfJoint) (links number : ℕ) → All (λ joint. joint.child < links) joints → number < length joints → child_link joints number < links
 down_below joints links number all h =
     let j = joint_at joints number h in
     let b = all number j.joint h in

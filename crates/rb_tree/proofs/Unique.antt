@@ -2,7 +2,7 @@
 use Rattle.std.proofs.Common.{◌≡◌, ◌<◌, ◌≤◌, ℕ, zero, suc, sym, ◌∙◌, ap, arith, inl, inr}
 use Rattle.std.proofs.Math.Nat.{eq-zero-or-pos, eq-or-lt_of_le}
 use Rattle.std.proofs.lemmas.Bool.{cases_order}
-use Rattle.rb_tree.specs.Part.{IsPlaced, IsPart}
+use Rattle.rb_tree.specs.Grow.{IsPlaced, IsPart}
 
 -- the numbers of both bodies are the same
 pub record Agree (L P J L' P' J' : ℕ → ℕ) (k : ℕ) : Type 0 where

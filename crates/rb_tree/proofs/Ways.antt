@@ -6,7 +6,7 @@ use Rattle.std.proofs.lemmas.Option.{get_or_from_slice_get, slice_get_within}
 use Rattle.rb_urdf.specs.declared.robot.UrdfJoint.{UrdfJoint}
 use Rattle.rb_tree.specs.declared.order.Stem.{Stem}
 use Rattle.rb_tree.specs.Order.{Leads, Reaches}
-use Rattle.rb_tree.specs.Part.{up_of, link_of, parent_of, joint_of, HasLink, IsClosed, IsPartOf}
+use Rattle.rb_tree.specs.Grow.{parent_link, link_of, parent_of, joint_of, HasLink, IsClosed, IsPartOf}
 use Rattle.rb_tree.proofs.Stems.{JointAt, joint_at, up_read, down_read}
 
 -- from a link that is placed each way leads to one that is placed
@@ -18,7 +18,7 @@ way_placed joints stems closed (joint ∷ way) from to h leads =
     let j = leads.0.0 in
     let within = leads.0.1 in
     let is = sym leads.0.2 in
-    let starts : up_of joints j ≡ link_of stems h.number = up_read joints j joint within is ∙ leads.1 ∙ sym h.is in
+    let starts : parent_link joints j ≡ link_of stems h.number = up_read joints j joint within is ∙ leads.1 ∙ sym h.is in
     let child : HasLink stems joint.child = subst P (down_read joints j joint within is) (closed h.number h.within j within starts) in
     way_placed joints stems closed way joint.child to child leads.2
 

@@ -4,14 +4,17 @@ use Rattle.std.specs.List.{All}
 use Rattle.rb_urdf.specs.declared.robot.UrdfJoint.{UrdfJoint}
 use Rattle.rb_urdf.specs.declared.robot.UrdfLink.{UrdfLink}
 use Rattle.rb_urdf.specs.Robot.{Robot}
+use Rattle.rb_tree.specs.declared.sizes.TheConstants.{MAX_LINKS}
 use Rattle.rb_tree.specs.declared.order.Stem.{Stem}
 use Rattle.rb_tree.specs.declared.faults.TreeFault.{TreeFault}
 use Rattle.rb_tree.specs.declared.faults.TreeKind.{TreeKind}
 use Rattle.rb_tree.specs.declared.faults.TreeKind.TheVariants.{NoRoot, TwoRoots, Cycle, TooManyColumns}
 use Rattle.rb_tree.specs.declared.faults.WhichFile.TheVariants.{Urdf}
-use Rattle.rb_tree.specs.Order.{IsBuilt, IsOrder}
-use Rattle.rb_tree.specs.Part.{HasLink, IsGrown, IsClosed, IsFirstApart}
-use Rattle.rb_tree.specs.Faults.{HaveOneParent, HasRootBelow, HasRootFault, IsForest, IsOfKind, PassColumns, IsFirstFault, HasOrderFault}
+use Rattle.rb_tree.specs.Sizes.{IsBuildable, PassColumns}
+use Rattle.rb_tree.specs.Order.{IsOrder, IsForest, IsFirstFault, HasOrderFault}
+use Rattle.rb_tree.specs.Grow.{HasLink, IsGrown, IsClosed, IsFirstApart}
+use Rattle.rb_tree.specs.Roots.{HaveOneParent, HasRootBelow, HasRootFault}
+use Rattle.rb_tree.specs.Faults.{IsOfKind}
 use Rattle.rb_tree.proofs.Ordered.{order_grown, cycle_grown}
 
 as_fault : (robot : Robot) (fault : TreeFault) (kind : TreeKind) → fault.file ≡ Urdf → fault.kind ≡ kind → IsFirstFault robot kind fault.at → HasOrderFault robot fault
@@ -25,9 +28,9 @@ root_fault robot fault forest h =
     ]
 
 module _ (robot : Robot) (links : List UrdfLink) (joints : List UrdfJoint) (el : links ≡ robot.links) (ej : joints ≡ robot.joints) where
-  pub forest_of : All IsBuilt joints → length links ≤ 256 → HaveOneParent joints → IsForest robot
+  pub forest_of : All IsBuildable joints → length links ≤ MAX_LINKS → HaveOneParent joints → IsForest robot
   forest_of built few one =
-      let P : List UrdfJoint → Type 0 = λ xs. All IsBuilt xs in
+      let P : List UrdfJoint → Type 0 = λ xs. All IsBuildable xs in
       record {
         small = record { built = subst P ej built; few = omega (arith, ap (length {A = UrdfLink}) el) };
         one_parent = subst HaveOneParent ej one;

@@ -1,69 +1,19 @@
--- What it is for a robot to be built from a robot file, and for a fault to be one of its constants.
-use Rattle.std.specs.Prelude.{◌≡◌, ◌⊎◌, ℕ, List, [], ◌∷◌, take, Option, None, Some, Result, Ok, Err, IsOk, slice_get}
+-- What it is for a robot to be built from a robot file, and for a fault to be why none is.
+use Rattle.std.specs.Prelude.{◌≡◌, ◌⊎◌, ◌<◌, ℕ, List, length, take, Option, None, Some, slice_get}
 use Rattle.std.specs.List.{All, AllByRecursion, AllZip}
-use Rattle.rb_num.specs.Interval.{Interval}
-use Rattle.rb_spatial.specs.Tables as Spatial
-use Rattle.rb_spatial.specs.Vectors.{none}
-use Rattle.rb_joint.specs.declared.any.AnyJoint.{AnyJoint}
-use Rattle.rb_urdf.specs.declared.robot.UrdfKind.TheVariants.{Fixed}
 use Rattle.rb_urdf.specs.declared.robot.UrdfLink.{UrdfLink}
 use Rattle.rb_urdf.specs.declared.robot.UrdfJoint.{UrdfJoint}
 use Rattle.rb_urdf.specs.Robot.{Robot}
-use Rattle.rb_body.specs.declared.faults.BodyFault.{BodyFault}
-use Rattle.rb_body.specs.declared.faults.BodyFault.TheVariants as Why
-use Rattle.rb_body.specs.declared.raw.LinkRaw.{LinkRaw}
-use Rattle.rb_body.specs.declared.raw.JointRaw.{JointRaw}
-use Rattle.rb_body.specs.Raw.{link_brackets}
-use Rattle.rb_body.specs.Constants.{inertia_by, joint_by}
 use Rattle.rb_tree.specs.declared.faults.TreeFault.{TreeFault}
-use Rattle.rb_tree.specs.declared.faults.TreeKind.{TreeKind}
-use Rattle.rb_tree.specs.declared.faults.TreeKind.TheVariants.{AngleRange, ZeroAxis, Size}
-use Rattle.rb_tree.specs.declared.faults.WhichFile.TheVariants.{Urdf}
 use Rattle.rb_tree.specs.declared.order.Stem.{Stem}
 use Rattle.rb_tree.specs.declared.robot.Body.{Body}
-use Rattle.rb_tree.specs.Order.{IsOrder, IsBuilt as IsBuiltJoint}
-use Rattle.rb_tree.specs.Faults.{HasOrderFault, IsFewInAll}
-use Rattle.rb_tree.specs.Robot.{Tree}
+use Rattle.rb_tree.specs.Sizes.{IsBuildable, stem_columns}
+use Rattle.rb_tree.specs.Order.{IsOrder, HasOrderFault, IsFewInAll}
+use Rattle.rb_tree.specs.Columns.{own_columns}
+use Rattle.rb_tree.specs.Robot.{Tree, IsBodyKept}
+use Rattle.rb_tree.specs.Parts.{root_joint, IsMadeOf, IsRefusedAt}
 
--- ---- constants, or their refusal at a place
-abbrev pub kind_of : BodyFault → TreeKind
-kind_of Why.AngleRange = AngleRange
-kind_of Why.ZeroAxis = ZeroAxis
-kind_of Why.Size = Size
-
-abbrev pub placed : {A : Type 0} → ℕ → Result A BodyFault → Result A TreeFault
-placed at (Ok constants) = Ok constants
-placed at (Err why) = Err (record { kind = kind_of why; file = Urdf; at = at })
-
-abbrev pub raw_of : UrdfLink → LinkRaw
-raw_of link = record { mass = link.mass; «com» = link.com; rpy = link.rpy; six = link.six }
-
--- the inertia that a link gives its body
-unfoldable pub inertia_made : UrdfLink → Result (Spatial.Body Interval) TreeFault
-inertia_made link = placed link.place (inertia_by (link_brackets (raw_of link)))
-
--- the model of a joint, and the numbers that it is made of
-unfoldable pub joint_made : UrdfJoint → Result (AnyJoint × JointRaw) TreeFault
-joint_made joint = placed joint.place (joint_by joint.kind joint.xyz joint.rpy joint.axis)
-
--- ---- the joint that bears a body
-abbrev pub zeros : List Interval
-zeros = none ∷ none ∷ none ∷ []
-
--- of the root: it holds the root still at the world, and its place is that of the robot
-abbrev pub root_joint : ℕ → UrdfJoint
-root_joint at = record {
-  name = 114 ∷ 111 ∷ 111 ∷ 116 ∷ 95 ∷ 106 ∷ 111 ∷ 105 ∷ 110 ∷ 116 ∷ [];
-  place = at;
-  kind = Fixed;
-  parent = 0;
-  child = 0;
-  xyz = zeros;
-  rpy = zeros;
-  axis = zeros;
-  mimic = None;
-}
-
+-- the joint that bears a body: of the root it is the root joint
 abbrev pub Bears : Robot → Option ℕ → UrdfJoint → Type 0
 Bears robot None joint = joint ≡ root_joint robot.place
 Bears robot (Some number) joint = slice_get robot.joints number ≡ Some joint
@@ -74,15 +24,6 @@ pub record IsPair (robot : Robot) (stem : Stem) (link : UrdfLink) (joint : UrdfJ
   pub joint_is : Bears robot stem.joint joint
 
 -- ---- robots
--- a body has the names, the brackets and the constants of its link and its joint
-pub record IsMadeOf (link : UrdfLink) (joint : UrdfJoint) (body : Body) : Type 0 where
-  pub link_name : body.link_name ≡ link.name
-  pub link_raw : body.link_raw ≡ raw_of link
-  pub inertia : inertia_made link ≡ Ok body.inertia
-  pub joint_name : body.joint_name ≡ joint.name
-  pub model : joint_made joint ≡ Ok (body.joint, body.joint_raw)
-  pub mimic : body.mimic ≡ None
-
 pub record IsBody (robot : Robot) (stem : Stem) (body : Body) : Type 0 where
   pub link : UrdfLink
   pub joint : UrdfJoint
@@ -96,14 +37,10 @@ pub record IsBuilt (robot : Robot) (tree : Tree) : Type 0 where
   pub order : List Stem
   pub ordered : IsOrder robot order
   pub few : IsFewInAll robot order
-  pub joints : All IsBuiltJoint robot.joints
+  pub joints : All IsBuildable robot.joints
   pub bodies : AllZip (IsBody robot) order tree.bodies
 
 -- ---- faults
--- the constants of the joint are refused, or where they are not, those of the link
-abbrev pub IsRefusedAt : UrdfLink → UrdfJoint → TreeFault → Type 0
-IsRefusedAt link joint fault = (joint_made joint ≡ Err fault) ⊎ (IsOk (joint_made joint) × (inertia_made link ≡ Err fault))
-
 pub record IsRefused (robot : Robot) (stem : Stem) (fault : TreeFault) : Type 0 where
   pub link : UrdfLink
   pub joint : UrdfJoint
@@ -119,7 +56,7 @@ pub record HasConstantFault (robot : Robot) (fault : TreeFault) : Type 0 where
   pub order : List Stem
   pub ordered : IsOrder robot order
   pub few : IsFewInAll robot order
-  pub joints : All IsBuiltJoint robot.joints
+  pub joints : All IsBuildable robot.joints
   pub number : ℕ
   pub stem : Stem
   pub is : slice_get order number ≡ Some stem
@@ -129,3 +66,19 @@ pub record HasConstantFault (robot : Robot) (fault : TreeFault) : Type 0 where
 -- why a robot is not built
 abbrev pub HasFault : Robot → TreeFault → Type 0
 HasFault robot fault = HasOrderFault robot fault ⊎ HasConstantFault robot fault
+
+-- ---- while a robot is built
+abbrev pub IsJointThere : List UrdfJoint → Option ℕ → Type 0
+IsJointThere joints None = Unit {0}
+IsJointThere joints (Some number) = number < length joints
+
+-- the link and the joint of a body of the order are there
+pub record IsStemThere (robot : Robot) (stem : Stem) : Type 0 where
+  pub link : stem.link < length robot.links
+  pub joint : IsJointThere robot.joints stem.joint
+
+-- a body of the robot that keeps what bodies keep, with the columns of its joint
+pub record IsBodyOf (robot : Robot) (stem : Stem) (body : Body) : Type 0 where
+  pub is : IsBody robot stem body
+  pub kept : IsBodyKept body
+  pub columns : own_columns body ≡ stem_columns robot.joints stem

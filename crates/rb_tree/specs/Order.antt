@@ -1,20 +1,17 @@
--- The order of the bodies of a robot.
-use Rattle.std.specs.Prelude.{◌≡◌, ◌≢◌, ◌⊎◌, ◌<◌, ◌≤◌, ◌+◌, ℕ, zero, suc, List, [], ◌∷◌, length, Option, None, Some, slice_get, slice_index_or}
-use Rattle.std.specs.List.{AllPairs, Any, Contains}
-use Rattle.rb_urdf.specs.declared.robot.UrdfKind.{UrdfKind}
-use Rattle.rb_urdf.specs.declared.robot.UrdfKind.TheVariants.{Fixed, Revolute, Prismatic, Continuous, Planar, Floating}
+-- The order of the bodies of a robot, and the first thing that is wrong where it has none.
+use Rattle.std.specs.Prelude.{◌≡◌, ◌≢◌, ◌<◌, ◌≤◌, ◌+◌, ℕ, zero, suc, List, [], ◌∷◌, length, None, Some, slice_get, slice_index_or}
+use Rattle.std.specs.List.{All, Contains, sum_by}
 use Rattle.rb_urdf.specs.declared.robot.UrdfJoint.{UrdfJoint}
 use Rattle.rb_urdf.specs.Robot.{Robot}
+use Rattle.rb_tree.specs.declared.faults.TreeFault.{TreeFault}
+use Rattle.rb_tree.specs.declared.faults.TreeKind.{TreeKind}
+use Rattle.rb_tree.specs.declared.faults.TreeKind.TheVariants.{Unbuilt, TooManyLinks, TwoParents, NoRoot, TwoRoots, Cycle, TooManyColumns, AngleRange, ZeroAxis, Size, Memory}
+use Rattle.rb_tree.specs.declared.faults.WhichFile.TheVariants.{Urdf}
 use Rattle.rb_tree.specs.declared.order.Stem.{Stem}
-
--- a fixed, revolute or prismatic joint that follows no other
-pub record IsBuilt (joint : UrdfJoint) : Type 0 where
-  pub kind : (joint.kind ≡ Fixed) ⊎ (joint.kind ≡ Revolute) ⊎ (joint.kind ≡ Prismatic)
-  pub leads : joint.mimic ≡ None
-
--- a link is a child where it is the child of some joint
-abbrev pub IsChild : List UrdfJoint → ℕ → Type 0
-IsChild joints link = Any (λ joint. joint.child ≡ link) joints
+use Rattle.rb_tree.specs.declared.sizes.TheConstants.{MAX_LINKS, MAX_COLUMNS}
+use Rattle.rb_tree.specs.Faults.{IsLinkPlace}
+use Rattle.rb_tree.specs.Sizes.{IsBuildable, HasUnbuilt, stem_columns, PassColumns}
+use Rattle.rb_tree.specs.Roots.{IsChild, HaveOneParent, HasTwoParents, HasNoRoot, HasRootBelow, HasTwoRoots}
 
 -- the joints lead, one behind the other, from one link to another
 abbrev pub Leads : List UrdfJoint → ℕ → List UrdfJoint → ℕ → Type 0
@@ -25,41 +22,19 @@ Leads joints from (joint ∷ way) to = Contains joints joint × (joint.parent �
 abbrev pub Reaches : List UrdfJoint → ℕ → ℕ → Type 0
 Reaches joints root link = (way : List UrdfJoint) × Leads joints root way link
 
--- how many columns of a Jacobian a joint of this kind has
-abbrev pub columns_of : UrdfKind → ℕ
-columns_of Fixed = 0
-columns_of Revolute = 1
-columns_of Prismatic = 1
-columns_of Continuous = 1
-columns_of Planar = 3
-columns_of Floating = 6
-
--- the joint that bears a body, by its number
-abbrev pub bearer_of : List UrdfJoint → Option ℕ → Option UrdfJoint
-bearer_of joints None = None
-bearer_of joints (Some number) = slice_get joints number
-
-abbrev pub columns_at : Option UrdfJoint → ℕ
-columns_at None = 0
-columns_at (Some joint) = columns_of joint.kind
-
--- how many columns the joint of a body has
-abbrev pub stem_columns : List UrdfJoint → Stem → ℕ
-stem_columns joints stem = columns_at (bearer_of joints stem.joint)
-
 -- what stands for the world, and for a body that is not there
 abbrev pub no_stem : Stem
 no_stem = record { link = 0; joint = None; parent = 0 }
 
 -- the body of this number: bodies are numbered from 1, and the world is 0
-abbrev pub body : List Stem → ℕ → Stem
-body stems zero = no_stem
-body stems (suc before) = slice_index_or stems before no_stem
+abbrev pub stem_of : List Stem → ℕ → Stem
+stem_of stems zero = no_stem
+stem_of stems (suc before) = slice_index_or stems before no_stem
 
 -- the number of the body, or the world, that is so many steps nearer to the world
 abbrev pub climbed : List Stem → ℕ → ℕ → ℕ
 climbed stems zero number = number
-climbed stems (suc steps) number = climbed stems steps (body stems number).parent
+climbed stems (suc steps) number = climbed stems steps (stem_of stems number).parent
 
 -- a body is another one, or above it
 abbrev pub IsAtOrAbove : List Stem → ℕ → ℕ → Type 0
@@ -86,12 +61,62 @@ pub record IsBorne (joints : List UrdfJoint) (stem parent : Stem) : Type 0 where
 pub record IsOrder (robot : Robot) (stems : List Stem) : Type 0 where
   pub some : 0 < length stems
   pub count : length stems ≡ length robot.links
-  pub there : (number : ℕ) → 0 < number → number ≤ length stems → (body stems number).link < length robot.links
-  pub once : (a b : ℕ) → 0 < a → a < b → b ≤ length stems → (body stems a).link ≢ (body stems b).link
-  pub one_parent : AllPairs (λ a b. a.child ≢ b.child) robot.joints
-  pub root : IsRoot robot.joints (body stems 1)
-  pub borne : (number : ℕ) → 1 < number → number ≤ length stems → IsBorne robot.joints (body stems number) (body stems (body stems number).parent)
-  pub parent_before : (number : ℕ) → 1 < number → number ≤ length stems → (0 < (body stems number).parent) × ((body stems number).parent < number)
-  pub depth_first : (number : ℕ) → 0 < number → number < length stems → IsAtOrAbove stems (body stems (number + 1)).parent number
-  pub in_file_order : (a b first second : ℕ) → 1 < a → a < b → b ≤ length stems → (body stems a).parent ≡ (body stems b).parent →
-      (body stems a).joint ≡ Some first → (body stems b).joint ≡ Some second → first < second
+  pub there : (number : ℕ) → 0 < number → number ≤ length stems → (stem_of stems number).link < length robot.links
+  pub once : (a b : ℕ) → 0 < a → a < b → b ≤ length stems → (stem_of stems a).link ≢ (stem_of stems b).link
+  pub one_parent : HaveOneParent robot.joints
+  pub root : IsRoot robot.joints (stem_of stems 1)
+  pub borne : (number : ℕ) → 1 < number → number ≤ length stems → IsBorne robot.joints (stem_of stems number) (stem_of stems (stem_of stems number).parent)
+  pub parent_before : (number : ℕ) → 1 < number → number ≤ length stems → (0 < (stem_of stems number).parent) × ((stem_of stems number).parent < number)
+  pub depth_first : (number : ℕ) → 0 < number → number < length stems → IsAtOrAbove stems (stem_of stems (number + 1)).parent number
+  pub in_file_order : (a b first second : ℕ) → 1 < a → a < b → b ≤ length stems → (stem_of stems a).parent ≡ (stem_of stems b).parent →
+      (stem_of stems a).joint ≡ Some first → (stem_of stems b).joint ≡ Some second → first < second
+
+-- ---- limits
+-- no more links, and no more columns in all, than there may be
+pub record IsFewInAll (robot : Robot) (stems : List Stem) : Type 0 where
+  pub links : length robot.links ≤ MAX_LINKS
+  pub columns : sum_by (stem_columns robot.joints) stems ≤ MAX_COLUMNS
+
+-- each joint is built, and there are not too many links
+pub record IsSmall (robot : Robot) : Type 0 where
+  pub built : All IsBuildable robot.joints
+  pub few : length robot.links ≤ MAX_LINKS
+
+-- and no link is the child of two joints
+pub record IsForest (robot : Robot) : Type 0 where
+  pub small : IsSmall robot
+  pub one_parent : HaveOneParent robot.joints
+
+-- ---- faults
+-- the first link that no way of joints reaches from the root
+pub record HasCycle (robot : Robot) (at : ℕ) : Type 0 where
+  pub root : ℕ
+  pub only : HasRootBelow robot.joints (length robot.links) root
+  pub number : ℕ
+  pub is : IsLinkPlace robot.links number at
+  pub apart : Reaches robot.joints root number → ⊥
+  pub first : (link : ℕ) → link < number → Reaches robot.joints root link
+
+-- in the order of the bodies there are too many columns
+pub record HasTooManyColumns (robot : Robot) (at : ℕ) : Type 0 where
+  pub stems : List Stem
+  pub order : IsOrder robot stems
+  pub pass : PassColumns robot.joints stems at
+
+-- the first fault in the order of the kinds
+abbrev pub IsFirstFault : Robot → TreeKind → ℕ → Type 0
+IsFirstFault robot Unbuilt at = HasUnbuilt robot.joints at
+IsFirstFault robot TooManyLinks at = All IsBuildable robot.joints × IsLinkPlace robot.links MAX_LINKS at
+IsFirstFault robot TwoParents at = IsSmall robot × HasTwoParents robot.joints at
+IsFirstFault robot NoRoot at = IsForest robot × HasNoRoot robot × (at ≡ robot.place)
+IsFirstFault robot TwoRoots at = IsForest robot × HasTwoRoots robot at
+IsFirstFault robot Cycle at = IsForest robot × HasCycle robot at
+IsFirstFault robot TooManyColumns at = IsForest robot × HasTooManyColumns robot at
+IsFirstFault robot AngleRange at = ⊥
+IsFirstFault robot ZeroAxis at = ⊥
+IsFirstFault robot Size at = ⊥
+IsFirstFault robot Memory at = ⊥
+
+-- why a robot has no order of bodies, or too many of something
+abbrev pub HasOrderFault : Robot → TreeFault → Type 0
+HasOrderFault robot fault = (fault.file ≡ Urdf) × IsFirstFault robot fault.kind fault.at

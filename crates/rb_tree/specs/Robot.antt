@@ -1,15 +1,22 @@
 -- What contracts see of a robot, and what each robot keeps.
-use Rattle.std.specs.Prelude.{◌≡◌, ℕ, ◌<◌, ◌≤◌, List, length}
+use Rattle.std.specs.Prelude.{◌≡◌, ◌≢◌, ◌⊎◌, ℕ, ◌<◌, ◌≤◌, List, length, None, Some, Ok}
 use Rattle.std.specs.List.{AllByRecursion}
-use Rattle.rb_spatial.specs.Vectors.{none, vector_of}
+use Rattle.rb_num.specs.Interval.{zero_interval}
+use Rattle.rb_spatial.specs.Vectors.{vector_of}
 use Rattle.rb_trig.specs.Axis.{MakesUnit}
+use Rattle.rb_flat.specs.Joint.{entry_count}
+use Rattle.rb_flat.specs.Joint as Kinds
+use Rattle.rb_joint.specs.Any.{kind_of}
+use Rattle.rb_urdf.specs.Numbers.{zeros}
 use Rattle.rb_body.specs.declared.raw.JointRaw.{JointRaw}
 use Rattle.rb_body.specs.Raw.{HasAxis, link_brackets}
-use Rattle.rb_body.specs.Constants.{no_axis}
-use Rattle.rb_body.specs.Encloses.{EnclosesInertia, EnclosesJoint}
+use Rattle.rb_body.specs.Inertia.{inertia_by}
+use Rattle.rb_body.specs.Joint.{joint_by}
 use Rattle.rb_tree.specs.declared.robot.Body.{Body}
+use Rattle.rb_tree.specs.declared.robot.Mimic.{Mimic}
 use Rattle.rb_tree.specs.declared.columns.Start.{Start}
-use Rattle.rb_tree.specs.Columns.{parent_at, leader_at, column_count, owners_from, AreUps, AreStarts}
+use Rattle.rb_tree.specs.declared.sizes.TheConstants.{MAX_LINKS, MAX_COLUMNS}
+use Rattle.rb_tree.specs.Columns.{body_at, parent_at, leader_at, full_count, column_count, owners_from, AreUps, AreStarts}
 
 -- its name, and its bodies from body 1 on
 pub record Tree : Type 0 where
@@ -26,25 +33,54 @@ pub record HasColumn (tree : Tree) (c : ℕ) : Type 0 where
   pub from : 1 ≤ c
   pub to : c ≤ column_count tree.bodies
 
+-- ---- constants
 -- the factor makes the axis one unit long; a joint without an axis has both zero
 pub record IsAxisKept (raw : JointRaw) : Type 0 where
   pub unit : HasAxis raw.kind → MakesUnit (vector_of raw.axis).x (vector_of raw.axis).y (vector_of raw.axis).z raw.factor
-  pub zero : ¬ HasAxis raw.kind → (raw.axis ≡ no_axis) × (raw.factor ≡ none)
+  pub zero : ¬ HasAxis raw.kind → (raw.axis ≡ zeros) × (raw.factor ≡ zero_interval)
 
--- the constants of a body enclose what its brackets allow
+-- the inertia and the joint are those that the body's brackets give
 pub record IsBodyKept (body : Body) : Type 0 where
-  pub inertia : EnclosesInertia (link_brackets body.link_raw) body.inertia
-  pub joint : EnclosesJoint body.joint body.joint_raw
+  pub inertia : inertia_by (link_brackets body.link_raw) ≡ Ok body.inertia
+  pub joint : joint_by body.joint_raw.kind body.joint_raw.xyz body.joint_raw.rpy body.joint_raw.axis ≡ Ok (body.joint, body.joint_raw)
   pub axis : IsAxisKept body.joint_raw
 
+-- ---- names
+-- no other body has a link of this name
+abbrev pub IsOnlyLink : List Body → ℕ → List ℕ → Type 0
+IsOnlyLink bodies i name = (j : ℕ) (body : Body) → j ≢ i → body_at bodies j ≡ Some body → body.link_name ≢ name
+
+-- the name of the joint is no other joint's: a root's may be, where it is fixed
+abbrev pub HasOwnJointName : ℕ → Body → Type 0
+HasOwnJointName i body = (1 < i) ⊎ (kind_of body.joint ≢ Kinds.Fixed)
+
+-- no other body has a joint of this name, but for a fixed root
+abbrev pub IsOnlyJoint : List Body → ℕ → List ℕ → Type 0
+IsOnlyJoint bodies i name = (j : ℕ) (body : Body) → j ≢ i → body_at bodies j ≡ Some body → HasOwnJointName j body → body.joint_name ≢ name
+
+-- ---- joints that follow others
+-- both have one entry, and the other is the joint of a body that follows none
+pub record FollowsMaster (bodies : List Body) (body : Body) (mimic : Mimic) : Type 0 where
+  pub master : Body
+  pub is : body_at bodies mimic.master ≡ Some master
+  pub leads : master.mimic ≡ None
+  pub entry : entry_count (kind_of body.joint) ≡ 1
+  pub master_entry : entry_count (kind_of master.joint) ≡ 1
+
+-- ---- robots
 -- what the bodies of each robot keep: the parent of a body has a smaller number, and the body that it moves by is there
 pub record AreBodies (bodies : List Body) : Type 0 where
   pub some : 1 ≤ length bodies
-  pub few : length bodies ≤ 256
-  pub few_columns : column_count bodies ≤ 64
+  pub few : length bodies ≤ MAX_LINKS
+  pub few_columns : column_count bodies ≤ MAX_COLUMNS
+  pub few_full : full_count bodies ≤ MAX_COLUMNS
+  pub columns_within : column_count bodies ≤ full_count bodies
   pub parents : (i : ℕ) → 1 ≤ i → parent_at bodies i < i
   pub leads_from : (i : ℕ) → 1 ≤ i → 1 ≤ leader_at bodies i
   pub leads_to : (i : ℕ) → i ≤ length bodies → leader_at bodies i ≤ length bodies
+  pub follows : (i : ℕ) (body : Body) (mimic : Mimic) → body_at bodies i ≡ Some body → body.mimic ≡ Some mimic → FollowsMaster bodies body mimic
+  pub links : (i : ℕ) (body : Body) → body_at bodies i ≡ Some body → IsOnlyLink bodies i body.link_name
+  pub joints : (i : ℕ) (body : Body) → body_at bodies i ≡ Some body → HasOwnJointName i body → IsOnlyJoint bodies i body.joint_name
   pub kept : AllByRecursion IsBodyKept bodies
 
 -- the bodies, where their columns begin, the bodies of the columns, and the columns upward

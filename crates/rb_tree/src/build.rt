@@ -1,11 +1,11 @@
 ghost use Rattle.std.specs.Prelude.{◌≡◌, ◌⊎◌, IfOk, IfErr};
 ghost use Rattle.std.specs.List.{All};
 ghost use Rattle.std.specs.List.{AllZip};
-ghost use Rattle.rb_tree.specs.Order.{IsOrder, IsBuilt as IsBuiltJoint};
+ghost use Rattle.rb_tree.specs.Order.{IsOrder, IsFewInAll};
+ghost use Rattle.rb_tree.specs.Sizes.{IsBuildable};
 ghost use Rattle.rb_tree.specs.Robot.{AreBodies};
-ghost use Rattle.rb_tree.specs.Faults.{no_memory as no_memory_fault, IsFewInAll};
-ghost use Rattle.rb_tree.specs.Made.{IsStemThere, IsBodyOf};
-ghost use Rattle.rb_tree.specs.Build.{IsBuilt, IsRefused, HasConstantFault, HasFault};
+ghost use Rattle.rb_tree.specs.Faults.{no_memory as no_memory_fault};
+ghost use Rattle.rb_tree.specs.Build.{IsStemThere, IsBodyOf, IsBuilt, IsRefused, HasConstantFault, HasFault};
 
 use crate::faults::TreeFault;
 use crate::order::{Stem, order_of};
@@ -18,7 +18,7 @@ use std::alloc::Global;
 /// The body of a place in the order.
 fn body_at(alloc: Global, urdf: &UrdfRobot, stem: &Stem) -> Result<Body, TreeFault>
     requires there { IsStemThere urdf.now stem.now }
-    requires built { All IsBuiltJoint urdf.now.joints }
+    requires built { All IsBuildable urdf.now.joints }
     ensures ok { IfOk result (IsBodyOf urdf.now stem.now) }
     ensures err { IfErr result (λ fault. (fault ≡ no_memory_fault) ⊎ IsRefused urdf.now stem.now fault) }
 {
@@ -36,7 +36,7 @@ fn body_at(alloc: Global, urdf: &UrdfRobot, stem: &Stem) -> Result<Body, TreeFau
 fn bodies_of(alloc: Global, urdf: &UrdfRobot, order: &[Stem]) -> Result<Vec<Body>, TreeFault>
     requires ordered { IsOrder urdf.now order.now }
     requires few { IsFewInAll urdf.now order.now }
-    requires built { All IsBuiltJoint urdf.now.joints }
+    requires built { All IsBuildable urdf.now.joints }
     ensures ok { IfOk result (λ bodies. AllZip (IsBodyOf urdf.now) order.now bodies.items) }
     ensures err { IfErr result (λ fault. (fault ≡ no_memory_fault) ⊎ HasConstantFault urdf.now fault) }
 {

@@ -1,4 +1,5 @@
 ghost use Rattle.std.specs.Prelude.{◌≡◌, ◌≤◌, ◌<◌, ◌+◌, ◌-◌, ℕ, nat_lt, if◌then◌else◌, length, IfOk};
+ghost use Rattle.rb_tree.specs.declared.sizes.TheConstants.{MAX_LINKS};
 ghost use Rattle.rb_tree.specs.Columns.{full_columns as full_columns_of, own_columns as own_columns_of, own_entries as own_entries_of, has_mimic as has_mimic_in, parent_at, owners_from, start_behind, nearest_column, AreStarts, AreNearest, AreUps};
 
 use crate::robot::Body;
@@ -49,7 +50,7 @@ pub(crate) fn has_mimic(bodies: &[Body]) -> bool
 
 /// Where each body begins, and at the end what would come next.
 pub(crate) fn starts_of(alloc: Global, bodies: &[Body]) -> Result<Vec<Start>, AllocError>
-    requires few { length bodies.now ≤ 256 }
+    requires few { length bodies.now ≤ MAX_LINKS }
     ensures { IfOk result (λ starts. AreStarts bodies.now starts.items) }
 {
     let mut next = Start {
@@ -72,7 +73,7 @@ pub(crate) fn starts_of(alloc: Global, bodies: &[Body]) -> Result<Vec<Start>, Al
 
 /// The bodies of the columns.
 pub(crate) fn owners_of(alloc: Global, bodies: &[Body]) -> Result<Vec<u32>, AllocError>
-    requires few { length bodies.now ≤ 256 }
+    requires few { length bodies.now ≤ MAX_LINKS }
     ensures { IfOk result (λ owners. owners.items ≡ owners_from 1 bodies.now) }
 {
     let mut owners = Vec::new(alloc);
@@ -87,7 +88,7 @@ pub(crate) fn owners_of(alloc: Global, bodies: &[Body]) -> Result<Vec<u32>, Allo
 
 /// The last column of each body, from the world on, where a body without columns takes that of its parent.
 fn nearest_of(alloc: Global, bodies: &[Body]) -> Result<Vec<u32>, AllocError>
-    requires few { length bodies.now ≤ 256 }
+    requires few { length bodies.now ≤ MAX_LINKS }
     requires parents { (i : ℕ) → 1 ≤ i → parent_at bodies.now i < i }
     ensures { IfOk result (λ lasts. AreNearest bodies.now lasts.items) }
 {
@@ -131,7 +132,7 @@ pub(crate) fn ups_of(
     starts: &[Start],
     owners: &[u32],
 ) -> Result<Vec<u32>, AllocError>
-    requires few { length bodies.now ≤ 256 }
+    requires few { length bodies.now ≤ MAX_LINKS }
     requires parents { (i : ℕ) → 1 ≤ i → parent_at bodies.now i < i }
     requires starts { AreStarts bodies.now starts.now }
     requires owners { owners.now ≡ owners_from 1 bodies.now }

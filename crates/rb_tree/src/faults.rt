@@ -9,7 +9,7 @@ use std::alloc::{AllocError, AllocFailed};
 pub enum TreeKind {
     /// A joint is continuous, planar or floating, or follows another.
     Unbuilt,
-    /// There are more than 256 links: the 257th.
+    /// There are more than `MAX_LINKS` links: the first behind these.
     TooManyLinks,
     /// A joint's child is the child of an earlier joint.
     TwoParents,
@@ -19,7 +19,7 @@ pub enum TreeKind {
     TwoRoots,
     /// A link that no way of joints reaches from the root.
     Cycle,
-    /// With this joint, in the order of the bodies, there are more than 64 columns.
+    /// With this joint, in the order of the bodies, there are more than `MAX_COLUMNS` columns.
     TooManyColumns,
     /// An angle is too large.
     AngleRange,

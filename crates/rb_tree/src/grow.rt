@@ -1,7 +1,8 @@
 ghost use Rattle.std.specs.Prelude.{◌≡◌, ◌<◌, ◌≤◌, ◌^◌, ◌↔◌, ℕ, IsTrue, IfOk, IfErr, MatchOption, length};
 ghost use Rattle.std.specs.List.{All, Any};
+ghost use Rattle.rb_tree.specs.declared.sizes.TheConstants.{MAX_LINKS};
 ghost use Rattle.rb_tree.specs.Faults.{no_memory};
-ghost use Rattle.rb_tree.specs.Part.{HasLink, IsFreeJoint, IsFullLink, IsPartOf, AreNumbered, IsGrown, IsNextStem, IsClosed, IsFirstApart};
+ghost use Rattle.rb_tree.specs.Grow.{HasLink, IsFreeJoint, IsFullLink, IsPartOf, AreNumbered, IsGrown, IsNextStem, IsClosed, IsFirstApart};
 
 use crate::faults::TreeFault;
 use crate::order::Stem;
@@ -58,7 +59,7 @@ pub(crate) fn stems_of(
     root: usize,
 ) -> Result<Vec<Stem>, TreeFault>
     requires few_joints { length joints.now < 2 ^ 32 }
-    requires few_links { links ≤ 256 }
+    requires few_links { links ≤ MAX_LINKS }
     requires root_there { root < links }
     requires children { All (λ joint. joint.child < links) joints.now }
     ensures grown { IfOk result (λ stems. IsGrown joints.now links root stems.items) }

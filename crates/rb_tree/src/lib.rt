@@ -5,18 +5,17 @@ mod build;
 mod columns;
 mod faults;
 mod grow;
-mod laws;
+pub mod laws;
 mod order;
 mod parts;
 mod robot;
-mod robot_laws;
 mod roots;
 mod sizes;
 
 pub use faults::{TreeFault, TreeKind, WhichFile};
-pub use laws::{fault_excludes_order_law, one_fault_law, one_order_law};
+pub use rb_body::{JointRaw, LinkRaw};
 pub use robot::{Body, Mimic, Robot};
-pub use robot_laws::{nearest_column_law, one_answer_law, root_law};
+pub use sizes::{MAX_COLUMNS, MAX_LINKS};
 
 #[cfg(test)]
 mod robot_tests;

@@ -1,7 +1,9 @@
 ghost use Rattle.std.specs.Prelude.{◌≡◌, ◌⊎◌, ◌≤◌, length, IfOk, IfErr};
 ghost use Rattle.std.specs.List.{All};
-ghost use Rattle.rb_tree.specs.Order.{IsBuilt, IsOrder};
-ghost use Rattle.rb_tree.specs.Faults.{no_memory, HasOrderFault, IsFewInAll};
+ghost use Rattle.rb_urdf.specs.Robot.{IsRobot};
+ghost use Rattle.rb_tree.specs.Sizes.{IsBuildable};
+ghost use Rattle.rb_tree.specs.Order.{IsOrder, HasOrderFault, IsFewInAll};
+ghost use Rattle.rb_tree.specs.Faults.{no_memory};
 
 use crate::faults::{TreeFault, TreeKind, fault};
 use crate::grow::{first_apart, stems_of};
@@ -21,8 +23,9 @@ pub(crate) struct Stem {
 
 /// The bodies of the robot in their order, from the root.
 pub(crate) fn order_of(alloc: Global, robot: &UrdfRobot) -> Result<Vec<Stem>, TreeFault>
+    ensures kept { IfOk result (λ _. IsRobot robot.now.links robot.now.joints) }
     ensures ok { IfOk result (λ stems. IsOrder robot.now stems.items) }
-    ensures built { IfOk result (λ stems. All IsBuilt robot.now.joints) }
+    ensures built { IfOk result (λ stems. All IsBuildable robot.now.joints) }
     ensures few { IfOk result (λ stems. IsFewInAll robot.now stems.items) }
     ensures err { IfErr result (λ fault. (fault ≡ no_memory) ⊎ HasOrderFault robot.now fault) }
 {

@@ -1,11 +1,11 @@
 ghost use Rattle.std.specs.Prelude.{◌≡◌, ◌⊎◌, IfOk, IfErr};
-ghost use Rattle.rb_body.specs.Raw.{HasModel, link_brackets};
-ghost use Rattle.rb_body.specs.Encloses.{EnclosesInertia, EnclosesJoint};
-ghost use Rattle.rb_tree.specs.Order.{columns_of};
+ghost use Rattle.rb_body.specs.Raw.{HasModel};
+ghost use Rattle.rb_body.specs.Joint.{HasNumbers};
+ghost use Rattle.rb_tree.specs.Sizes.{columns_of};
 ghost use Rattle.rb_tree.specs.Columns.{own_columns};
-ghost use Rattle.rb_tree.specs.Robot.{IsAxisKept, IsBodyKept};
+ghost use Rattle.rb_tree.specs.Robot.{IsBodyKept};
 ghost use Rattle.rb_tree.specs.Faults.{no_memory as no_memory_fault};
-ghost use Rattle.rb_tree.specs.Build.{kind_of as kind_of_fault, raw_of as raw_of_link, root_joint as root_joint_at, inertia_made as inertia_made_of, joint_made as joint_made_of, IsMadeOf, IsRefusedAt};
+ghost use Rattle.rb_tree.specs.Parts.{kind_of as kind_of_fault, raw_of as raw_of_link, root_joint as root_joint_at, inertia_made as inertia_made_of, joint_made as joint_made_of, IsMadeOf, IsRefusedAt};
 
 use crate::faults::{TreeFault, TreeKind, fault};
 use crate::robot::Body;
@@ -38,10 +38,9 @@ fn raw_of(link: &UrdfLink) -> LinkRaw
     }
 }
 
-#[tactic(auto, unfolding(crate::specs::Build::inertia_made))]
+#[tactic(auto, unfolding(crate::specs::Parts::inertia_made))]
 fn inertia_made(link: &UrdfLink) -> Result<BodyInertia, TreeFault>
     ensures exact { result ≡ inertia_made_of link.now }
-    ensures encloses { IfOk result (EnclosesInertia (link_brackets (raw_of_link link.now))) }
 {
     match inertia_of(&raw_of(link)) {
         Ok(inertia) => Ok(inertia),
@@ -49,13 +48,11 @@ fn inertia_made(link: &UrdfLink) -> Result<BodyInertia, TreeFault>
     }
 }
 
-#[tactic(auto, unfolding(crate::specs::Build::joint_made))]
+#[tactic(auto, unfolding(crate::specs::Parts::joint_made))]
 fn joint_made(joint: &UrdfJoint) -> Result<(AnyJoint, JointRaw), TreeFault>
     requires { HasModel joint.now.kind }
     ensures exact { result ≡ joint_made_of joint.now }
-    ensures encloses { IfOk result (λ made. EnclosesJoint made.0 made.1) }
-    ensures kind { IfOk result (λ made. made.1.kind ≡ joint.now.kind) }
-    ensures axis { IfOk result (λ made. IsAxisKept made.1) }
+    ensures numbers { IfOk result (λ made. HasNumbers joint.now.kind joint.now.xyz joint.now.rpy joint.now.axis made.1) }
 {
     match joint_of(joint.kind, joint.xyz, joint.rpy, joint.axis) {
         Ok(made) => Ok(made),

@@ -1,4 +1,4 @@
-ghost use Rattle.std.specs.Prelude.{◌≡◌, ◌<◌, ◌≤◌, ◌+◌, ◌-◌, ◌*◌, IfOk, length, slice_index, EachIndex};
+ghost use Rattle.std.specs.Prelude.{◌≡◌, ◌<◌, ◌≤◌, ◌+◌, ◌-◌, ◌*◌, IfOk, IfSome, length, slice_index, EachIndex};
 ghost use Rattle.std.specs.Option.{IsSomeAnd};
 
 use crate::columns::{Start, has_mimic, owners_of, starts_of, ups_of};
@@ -32,7 +32,7 @@ pub struct Body {
     pub mimic: Option<Mimic>,
 }
 
-/// A tree of 1 to 256 bodies with at most 64 columns. Bodies and columns are numbered from 1; body 0 is the world. The parent of a body has
+/// A tree of 1 to `MAX_LINKS` bodies with at most `MAX_COLUMNS` columns, also with those of joints that follow others. Bodies and columns are numbered from 1; body 0 is the world. The parent of a body has
 /// a smaller number (Featherstone, Rigid Body Dynamics Algorithms, chapter 4).
 #[derive(Debug, Drop)]
 pub struct Robot {
@@ -55,9 +55,11 @@ impl Model for Robot {
 
 impl Robot {
     ghost use Rattle.rb_body.specs.Raw.{link_brackets};
-    ghost use Rattle.rb_body.specs.Encloses.{EnclosesInertia, EnclosesJoint};
+    ghost use Rattle.rb_body.specs.Inertia.{inertia_by, EnclosesInertia};
+    ghost use Rattle.rb_body.specs.Joint.{joint_by, EnclosesJoint};
+    ghost use Rattle.rb_tree.specs.declared.sizes.TheConstants.{MAX_LINKS, MAX_COLUMNS};
     ghost use Rattle.rb_tree.specs.Columns.{body_at, full_at, columns_at, entries_at, body_of_column, up_of, first_full, first_column, first_entry, full_count, column_count, entry_count, has_mimic as has_mimic_in, start_behind, leader_at, AreUps};
-    ghost use Rattle.rb_tree.specs.Robot.{HasBody, HasColumn, IsAxisKept, IsBodyKept, AreBodies};
+    ghost use Rattle.rb_tree.specs.Robot.{HasBody, HasColumn, IsAxisKept, IsBodyKept, IsOnlyLink, HasOwnJointName, IsOnlyJoint, FollowsMaster, AreBodies};
 
     /// The robot of these bodies.
     pub(crate) fn new(alloc: Global, name: Text, bodies: Vec<Body>) -> Result<Robot, AllocError>
@@ -92,7 +94,8 @@ impl Robot {
     pub fn bodies(&self) -> u32
         ensures count { result ≡ length self.now.bodies }
         ensures some { 1 ≤ result }
-        ensures few { result ≤ 256 }
+        ensures few { result ≤ MAX_LINKS }
+        ensures kept { AreBodies self.now.bodies }
     {
         self.bodies.len() as u32
     }
@@ -100,6 +103,7 @@ impl Robot {
     fn body(&self, i: u32) -> &Body
         requires { HasBody self.now i }
         ensures is { body_at self.now.bodies i ≡ Some result.now }
+        ensures robot { AreBodies self.now.bodies }
         ensures kept { IsBodyKept result.now }
         ensures above { result.now.parent < i }
     {
@@ -115,37 +119,45 @@ impl Robot {
         self.body(i).parent
     }
 
-    /// The joint that bears the body, which encloses what its brackets allow.
+    /// The joint that bears the body: that which its brackets give. It encloses what they allow.
+    #[tactic(auto, using(crate::proofs::Shapes::encloses_joint))]
     pub fn joint(&self, i: u32) -> &AnyJoint
         requires { HasBody self.now i }
         ensures joint { IsSomeAnd (body_at self.now.bodies i) (λ body. body.joint ≡ result.now) }
+        ensures exact { IsSomeAnd (body_at self.now.bodies i) (λ body. joint_by body.joint_raw.kind body.joint_raw.xyz body.joint_raw.rpy body.joint_raw.axis ≡ Ok (result.now, body.joint_raw)) }
         ensures encloses { IsSomeAnd (body_at self.now.bodies i) (λ body. EnclosesJoint result.now body.joint_raw) }
     {
         &self.body(i).joint
     }
 
-    /// The inertia of the body, which encloses what its link's brackets allow: the mass in kilograms, the first moment in kg m, and the
-    /// inertia about the body's origin in kg m².
+    /// The inertia of the body, that which its link's brackets give: the mass in kilograms, the first moment in kg m, and the inertia about
+    /// the body's origin in kg m². It encloses what the brackets allow.
+    #[tactic(auto, using(crate::proofs::Shapes::encloses_inertia))]
     pub fn inertia(&self, i: u32) -> &BodyInertia
         requires { HasBody self.now i }
         ensures inertia { IsSomeAnd (body_at self.now.bodies i) (λ body. body.inertia ≡ result.now) }
+        ensures exact { IsSomeAnd (body_at self.now.bodies i) (λ body. inertia_by (link_brackets body.link_raw) ≡ Ok result.now) }
         ensures encloses { IsSomeAnd (body_at self.now.bodies i) (λ body. EnclosesInertia (link_brackets body.link_raw) result.now) }
     {
         &self.body(i).inertia
     }
 
-    /// The name of the body's link.
+    /// The name of the body's link, which no other body's link has.
+    #[tactic(auto, using(crate::proofs::Shapes::only_link))]
     pub fn link_name(&self, i: u32) -> &[u8]
         requires { HasBody self.now i }
-        ensures { IsSomeAnd (body_at self.now.bodies i) (λ body. body.link_name ≡ result.now) }
+        ensures name { IsSomeAnd (body_at self.now.bodies i) (λ body. body.link_name ≡ result.now) }
+        ensures only { IsOnlyLink self.now.bodies i result.now }
     {
         self.body(i).link_name.as_str().as_bytes()
     }
 
-    /// The name of the joint that bears the body: `root_joint` for body 1.
+    /// The name of the joint that bears the body: `root_joint` for body 1. But for a root's joint that is fixed, no two bodies' joints have
+    /// one name.
     pub fn joint_name(&self, i: u32) -> &[u8]
         requires { HasBody self.now i }
-        ensures { IsSomeAnd (body_at self.now.bodies i) (λ body. body.joint_name ≡ result.now) }
+        ensures name { IsSomeAnd (body_at self.now.bodies i) (λ body. body.joint_name ≡ result.now) }
+        ensures only { IsSomeAnd (body_at self.now.bodies i) (λ body. HasOwnJointName i body → IsOnlyJoint self.now.bodies i result.now) }
     {
         self.body(i).joint_name.as_str().as_bytes()
     }
@@ -167,10 +179,12 @@ impl Robot {
         &self.body(i).joint_raw
     }
 
-    /// That the body's joint follows another, where it does.
+    /// That the body's joint follows another, where it does: both have one entry, and the other follows none.
+    #[tactic(auto, using(crate::proofs::Shapes::follows))]
     pub fn mimic_of(&self, i: u32) -> Option<Mimic>
         requires { HasBody self.now i }
-        ensures { IsSomeAnd (body_at self.now.bodies i) (λ body. body.mimic ≡ result) }
+        ensures mimic { IsSomeAnd (body_at self.now.bodies i) (λ body. body.mimic ≡ result) }
+        ensures follows { IsSomeAnd (body_at self.now.bodies i) (λ body. IfSome result (FollowsMaster self.now.bodies body)) }
     {
         self.body(i).mimic
     }
@@ -187,8 +201,9 @@ impl Robot {
         ensures full { result.full ≡ 1 + full_count self.now.bodies }
         ensures column { result.column ≡ 1 + column_count self.now.bodies }
         ensures entry { result.entry ≡ entry_count self.now.bodies }
-        ensures few { result.column ≤ 65 }
-        ensures few_entries { result.entry ≤ 7 * 256 }
+        ensures few { result.full ≤ MAX_COLUMNS + 1 }
+        ensures within { result.column ≤ result.full }
+        ensures few_entries { result.entry ≤ 7 * MAX_LINKS }
     {
         self.starts[self.bodies.len()]
     }
@@ -203,14 +218,16 @@ impl Robot {
     /// How many columns it has: those of all joints that follow no other.
     pub fn nv(&self) -> u32
         ensures count { result ≡ column_count self.now.bodies }
-        ensures few { result ≤ 64 }
+        ensures few { result ≤ MAX_COLUMNS }
     {
         self.end().column - 1
     }
 
     /// How many full columns it has: those of all joints.
     pub fn full(&self) -> u32
-        ensures { result ≡ full_count self.now.bodies }
+        ensures count { result ≡ full_count self.now.bodies }
+        ensures few { result ≤ MAX_COLUMNS }
+        ensures columns { column_count self.now.bodies ≤ result }
     {
         self.end().full - 1
     }

@@ -1,7 +1,7 @@
 ghost use Rattle.rb_tree.specs.declared.faults.TreeKind.TheVariants.{TwoParents};
 ghost use Rattle.std.specs.Prelude.{◌≡◌, ◌<◌, ◌≤◌, ◌↔◌, ℕ, IsTrue, IfOk, IfErr, MatchOption, length, take};
-ghost use Rattle.rb_tree.specs.Order.{IsChild};
-ghost use Rattle.rb_tree.specs.Faults.{HaveOneParent, HasTwoParents, HasNoRoot, HasTwoRoots, HasRootBelow, HasRootFault, IsOfKind, IsRootFrom};
+ghost use Rattle.rb_tree.specs.Roots.{IsChild, HaveOneParent, HasTwoParents, HasNoRoot, HasTwoRoots, HasRootBelow, HasRootFault, IsRootFrom};
+ghost use Rattle.rb_tree.specs.Faults.{IsOfKind};
 
 use crate::faults::{TreeFault, TreeKind, fault};
 use rb_urdf::{UrdfJoint, UrdfRobot};

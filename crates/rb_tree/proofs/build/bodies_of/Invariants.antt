@@ -1,6 +1,6 @@
 use Rattle.std.proofs.Common.{take}
 use Rattle.std.specs.List.{AllZip}
-use Rattle.rb_tree.specs.Made.{IsBodyOf}
+use Rattle.rb_tree.specs.Build.{IsBodyOf}
 use Rattle.rb_tree.proofs.build.bodies_of.Given as goal
 
 abbrev pub invariant-loop-stem : goal.invariant-loop-stem

@@ -3,7 +3,7 @@ use Rattle.std.proofs.lemmas.Option.{slice_get-get_or}
 use Rattle.rb_tree.specs.declared.columns.Start.{Start}
 use Rattle.rb_tree.specs.Columns.{start_behind, nearest_column}
 use Rattle.rb_tree.proofs.ListLaws.{IsListOf-get}
-use Rattle.rb_tree.proofs.ColumnLaws.{parent_low, parent_of, behind_start, at_start}
+use Rattle.rb_tree.proofs.ColumnLaws.{parent_low, parent_number, behind_start, at_start}
 use Rattle.rb_tree.proofs.columns.up_from.Goals as goal
 
 pub bounds-lasts-bodies : goal.bounds-lasts-bodies
@@ -30,5 +30,5 @@ returns-else-starts-place c =
     let low = parent_low bodies c.requires.parents k b h in
     let e = ap (λ (s : Start). s.column) (IsListOf-get _ (start_behind bodies) c.args.starts.now k (record { full = 0; column = 0; entry = 0 }) c.requires.starts (omega arith)) in
     let near = IsListOf-get _ (nearest_column bodies) c.args.lasts.now b.parent 0 c.requires.lasts (omega (arith, low)) in
-    let parent = parent_of bodies c.args.owner k b (omega arith) h in
+    let parent = parent_number bodies c.args.owner k b (omega arith) h in
     near ∙ (ap (nearest_column bodies) parent ∙ at_start (start_behind bodies k).column c.args.previous _ (omega (arith, e, c.if-starts-place.false)))

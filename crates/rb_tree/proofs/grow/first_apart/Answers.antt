@@ -1,6 +1,6 @@
 use Rattle.std.proofs.Common.{◌≡◌, below_more}
 use Rattle.std.specs.List.{Any}
-use Rattle.rb_tree.specs.Part.{HasLink}
+use Rattle.rb_tree.specs.Grow.{HasLink}
 use Rattle.rb_tree.proofs.Answered.{holds, fails}
 use Rattle.rb_tree.proofs.Stems.{placed_from_any, any_from_placed}
 use Rattle.rb_tree.proofs.grow.first_apart.Goals as goal

@@ -2,7 +2,7 @@ use Rattle.std.proofs.Common.{◌≡◌, ◌<◌, ℕ, Bool, true, IsTrue, ◌�
 use Rattle.std.specs.List.{Any}
 use Rattle.rb_urdf.specs.declared.robot.UrdfJoint.{UrdfJoint}
 use Rattle.rb_tree.specs.declared.order.Stem.{Stem}
-use Rattle.rb_tree.specs.Part.{HasLink, up_of, down_of}
+use Rattle.rb_tree.specs.Grow.{HasLink, parent_link, child_link}
 use Rattle.rb_tree.proofs.Answered.{holds, fails}
 use Rattle.rb_tree.proofs.Stems.{placed_from_any, any_from_placed, up_read, down_read}
 use Rattle.rb_tree.proofs.grow.free_joint.Goals as goal
@@ -23,7 +23,7 @@ returns-then-not-is_placed c =
     }
 
 placed_behind : (joints : List UrdfJoint) (stems : List Stem) (number : ℕ) (joint : UrdfJoint) (b : Bool) → number < length joints →
-    joint ≡ get_or joints number joint → (IsTrue b ↔ Any (λ stem. stem.link ≡ joint.child) stems) → b ≡ true → HasLink stems (down_of joints number)
+    joint ≡ get_or joints number joint → (IsTrue b ↔ Any (λ stem. stem.link ≡ joint.child) stems) → b ≡ true → HasLink stems (child_link joints number)
 placed_behind joints stems number joint b within is says h =
     let P : ℕ → Type 0 = λ link. HasLink stems link in
     subst P (sym (down_read joints number joint within is)) (placed_from_any stems joint.child (holds b (Any (λ stem. stem.link ≡ joint.child) stems) says h))
@@ -34,7 +34,7 @@ loop-number-preserved c =
     let stems = c.args.stems.now in
     let number = c.loop-number.number in
     let joint = c.index-joints-number.result in
-    below_more (λ j. up_of joints j ≡ c.args.link → HasLink stems (down_of joints j)) number c.loop-number.invariant
+    below_more (λ j. parent_link joints j ≡ c.args.link → HasLink stems (child_link joints j)) number c.loop-number.invariant
     (λ starts. elim c.else-joint-link.branch [
       | else-joint-link-via-then-joint-link+else-not-is_placed w ↦
           placed_behind joints stems number joint w.is_placed.result c.loop-number-test.true c.index-joints-number.is w.is_placed.ensures w.if-not-is_placed.false

@@ -2,7 +2,7 @@ use Rattle.std.proofs.Common.{◌≡◌, ◌+◌, ◌-◌, ℕ, List, length, re
 use Rattle.std.proofs.Math.Nat.{eq-zero-or-pos}
 use Rattle.rb_urdf.specs.declared.robot.UrdfJoint.{UrdfJoint}
 use Rattle.rb_tree.specs.declared.order.Stem.{Stem}
-use Rattle.rb_tree.specs.Part.{stem_at, up_of, down_of, link_of, parent_of, joint_of, IsPartOf, AreNumbered, IsFullLink}
+use Rattle.rb_tree.specs.Grow.{stem_at, parent_link, child_link, link_of, parent_of, joint_of, IsPartOf, AreNumbered, IsFullLink}
 use Rattle.rb_tree.proofs.Placing.{IsAbove, above_root, above_parent}
 use Rattle.rb_tree.proofs.Stems.{down_read}
 use Rattle.rb_tree.proofs.grow.next_stem.Goals as goal
@@ -27,16 +27,16 @@ returns-in-Some c =
     }
 
 above_next : (joints : List UrdfJoint) (stems : List Stem) (body place : ℕ) → IsPartOf joints stems → AreNumbered stems → body ≡ place + 1 →
-    IsAbove (length joints) (up_of joints) (down_of joints) (length stems) (link_of stems) (parent_of stems) body → IsFullLink joints stems (link_of stems place) →
-    IsAbove (length joints) (up_of joints) (down_of joints) (length stems) (link_of stems) (parent_of stems) (stem_at stems place).parent
+    IsAbove (length joints) (parent_link joints) (child_link joints) (length stems) (link_of stems) (parent_of stems) body → IsFullLink joints stems (link_of stems place) →
+    IsAbove (length joints) (parent_link joints) (child_link joints) (length stems) (link_of stems) (parent_of stems) (stem_at stems place).parent
 above_next joints stems body place part numbered e above full =
-    let P : ℕ → Type 0 = λ n. IsAbove (length joints) (up_of joints) (down_of joints) (length stems) (link_of stems) (parent_of stems) n in
+    let P : ℕ → Type 0 = λ n. IsAbove (length joints) (parent_link joints) (child_link joints) (length stems) (link_of stems) (parent_of stems) n in
     let here = subst P e above in
     let w = here.within in
     elim (eq-zero-or-pos place) [
-      | inl root ↦ above_root (length joints) (up_of joints) (down_of joints) (length stems) (link_of stems) (parent_of stems) place (stem_at stems place).parent
+      | inl root ↦ above_root (length joints) (parent_link joints) (child_link joints) (length stems) (link_of stems) (parent_of stems) place (stem_at stems place).parent
           here full root (ap (λ i. (stem_at stems i).parent) root ∙ numbered.root)
-      | inr later ↦ above_parent (length joints) (up_of joints) (down_of joints) (length stems) (link_of stems) (parent_of stems) (joint_of stems) place
+      | inr later ↦ above_parent (length joints) (parent_link joints) (child_link joints) (length stems) (link_of stems) (parent_of stems) (joint_of stems) place
           (stem_at stems place).parent part here full later (numbered.later place later (omega arith))
     ]
 

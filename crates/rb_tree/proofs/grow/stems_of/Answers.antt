@@ -2,7 +2,7 @@ use Rattle.std.proofs.Common.{◌≡◌, ◌<◌, ◌-◌, ◌++◌, ◌∷◌, 
 use Rattle.std.specs.List.{All}
 use Rattle.rb_urdf.specs.declared.robot.UrdfJoint.{UrdfJoint}
 use Rattle.rb_tree.specs.declared.order.Stem.{Stem}
-use Rattle.rb_tree.specs.Part.{IsGrown, IsNextStem}
+use Rattle.rb_tree.specs.Grow.{IsGrown, IsNextStem}
 use Rattle.rb_tree.proofs.Stems.{length_push}
 use Rattle.rb_tree.proofs.Growth.{grown_first, grown_more, grown_fits}
 use Rattle.rb_tree.proofs.grow.stems_of.Goals as goal

@@ -1,5 +1,5 @@
 use Rattle.std.proofs.Common.{◌-◌, length}
-use Rattle.rb_tree.specs.Part.{IsGrown}
+use Rattle.rb_tree.specs.Grow.{IsGrown}
 use Rattle.rb_tree.proofs.grow.stems_of.Given as goal
 
 abbrev pub invariant-loop-stem : goal.invariant-loop-stem

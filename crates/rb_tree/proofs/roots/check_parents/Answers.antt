@@ -1,7 +1,6 @@
 use Rattle.std.proofs.Common.{take, subst}
 use Rattle.std.proofs.lemmas.List.{take_all}
-use Rattle.rb_tree.specs.Order.{IsChild}
-use Rattle.rb_tree.specs.Faults.{HaveOneParent}
+use Rattle.rb_tree.specs.Roots.{IsChild, HaveOneParent}
 use Rattle.rb_tree.proofs.Answered.{fails}
 use Rattle.rb_tree.proofs.Rooted.{parents_more}
 use Rattle.rb_tree.proofs.roots.check_parents.Goals as goal

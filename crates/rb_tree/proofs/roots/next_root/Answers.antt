@@ -1,4 +1,4 @@
-use Rattle.rb_tree.specs.Order.{IsChild}
+use Rattle.rb_tree.specs.Roots.{IsChild}
 use Rattle.rb_tree.proofs.Answered.{holds, more_from}
 use Rattle.rb_tree.proofs.roots.next_root.Goals as goal
 

@@ -1,5 +1,5 @@
 use Rattle.std.proofs.Common.{ℕ, ◌<◌, ◌≤◌}
-use Rattle.rb_tree.specs.Order.{IsChild}
+use Rattle.rb_tree.specs.Roots.{IsChild}
 use Rattle.rb_tree.proofs.roots.next_root.Given as goal
 
 abbrev pub invariant-loop-link : goal.invariant-loop-link

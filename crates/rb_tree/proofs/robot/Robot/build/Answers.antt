@@ -1,13 +1,13 @@
 use Rattle.std.proofs.Common.{◌∙◌}
 use Rattle.std.specs.List.{AllZip}
-use Rattle.rb_tree.specs.Made.{IsBodyOf}
+use Rattle.rb_tree.specs.Build.{IsBodyOf}
 use Rattle.rb_tree.proofs.MakingLaws.{are_bodies, built}
 use Rattle.rb_tree.proofs.robot.Robot.build.Goals as goal
 
 pub new-requires : goal.new-requires
 new-requires c =
     let made : AllZip (IsBodyOf c.args.urdf.now) c.in_ok-order.order.items c.in_ok-bodies.bodies.items = rw (← c.as_slice.ensures.value) c.in_ok-bodies.ensures.ok in
-    are_bodies c.args.urdf.now c.in_ok-order.order.items c.in_ok-bodies.bodies.items c.in_ok-order.ensures.ok made c.in_ok-order.ensures.few
+    are_bodies c.args.urdf.now c.in_ok-order.order.items c.in_ok-bodies.bodies.items c.in_ok-order.ensures.ok made c.in_ok-order.ensures.kept c.in_ok-order.ensures.few
 
 pub returns-clause-ok : goal.returns-clause-ok
 returns-clause-ok c =

@@ -1,5 +1,5 @@
 use Rattle.rb_tree.proofs.Nearest.{world, own, parents}
-use Rattle.rb_tree.proofs.robot_laws.nearest_column_law.Goals as goal
+use Rattle.rb_tree.proofs.laws.nearest_column_law.Goals as goal
 
 pub returns-clause-world : goal.returns-clause-world
 returns-clause-world c = world

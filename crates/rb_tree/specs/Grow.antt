@@ -6,11 +6,11 @@ use Rattle.rb_tree.specs.declared.order.Stem.{Stem}
 use Rattle.rb_tree.specs.Order.{no_stem}
 
 -- the numbers of the parent and the child link of a joint
-unfoldable pub up_of : List UrdfJoint → ℕ → ℕ
-up_of joints number = slice_index (map (λ joint. joint.parent) joints) number
+unfoldable pub parent_link : List UrdfJoint → ℕ → ℕ
+parent_link joints number = slice_index (map (λ joint. joint.parent) joints) number
 
-unfoldable pub down_of : List UrdfJoint → ℕ → ℕ
-down_of joints number = slice_index (map (λ joint. joint.child) joints) number
+unfoldable pub child_link : List UrdfJoint → ℕ → ℕ
+child_link joints number = slice_index (map (λ joint. joint.child) joints) number
 
 -- a stem by its place from 0
 abbrev pub stem_at : List Stem → ℕ → Stem
@@ -65,11 +65,11 @@ pub record IsPart (joints : ℕ) (up down : ℕ → ℕ) (bodies : ℕ) (links p
 
 -- the free joint of a link
 abbrev pub IsFreeJoint : List UrdfJoint → List Stem → ℕ → ℕ → Type 0
-IsFreeJoint joints stems link joint = IsFree (length joints) (up_of joints) (down_of joints) (length stems) (link_of stems) link joint
+IsFreeJoint joints stems link joint = IsFree (length joints) (parent_link joints) (child_link joints) (length stems) (link_of stems) link joint
 
 -- each child of the link is placed
 abbrev pub IsFullLink : List UrdfJoint → List Stem → ℕ → Type 0
-IsFullLink joints stems link = IsFull (length joints) (up_of joints) (down_of joints) (length stems) (link_of stems) link
+IsFullLink joints stems link = IsFull (length joints) (parent_link joints) (child_link joints) (length stems) (link_of stems) link
 
 -- the link is that of a body
 abbrev pub HasLink : List Stem → ℕ → Type 0
@@ -81,7 +81,7 @@ IsClosed joints stems = (k : ℕ) → k < length stems → IsFullLink joints ste
 
 -- the bodies placed so far
 abbrev pub IsPartOf : List UrdfJoint → List Stem → Type 0
-IsPartOf joints stems = IsPart (length joints) (up_of joints) (down_of joints) (length stems) (link_of stems) (parent_of stems) (joint_of stems)
+IsPartOf joints stems = IsPart (length joints) (parent_link joints) (child_link joints) (length stems) (link_of stems) (parent_of stems) (joint_of stems)
 
 -- the parent of the first is the world, and those of the others are bodies
 pub record AreNumbered (stems : List Stem) : Type 0 where
@@ -101,9 +101,9 @@ pub record IsNextStem (joints : List UrdfJoint) (stems : List Stem) (stem : Stem
   pub number : ℕ
   pub place : ℕ
   pub named : stem.joint ≡ Some number
-  pub link_is : stem.link ≡ down_of joints number
+  pub link_is : stem.link ≡ child_link joints number
   pub parent_is : stem.parent ≡ place + 1
-  pub next : IsNext (length joints) (up_of joints) (down_of joints) (length stems) (link_of stems) (parent_of stems) place number
+  pub next : IsNext (length joints) (parent_link joints) (child_link joints) (length stems) (link_of stems) (parent_of stems) place number
 
 -- the first link that is not placed
 pub record IsFirstApart (stems : List Stem) (links apart : ℕ) : Type 0 where

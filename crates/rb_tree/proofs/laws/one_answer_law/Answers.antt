@@ -1,5 +1,5 @@
 use Rattle.rb_tree.proofs.OneRobot.{built_once, one_fault_in_all, faults_exclude}
-use Rattle.rb_tree.proofs.robot_laws.one_answer_law.Goals as goal
+use Rattle.rb_tree.proofs.laws.one_answer_law.Goals as goal
 
 pub returns-clause-robot : goal.returns-clause-robot
 returns-clause-robot c = built_once
