@@ -1,9 +1,8 @@
 -- The inertia of a link encloses the body relation.
 use Rattle.std.proofs.Common.{◌≡◌, [], Result, Ok, Err, IfOk, refl}
 use Rattle.std.proofs.lemmas.Result.{IfOk-at_ok}
-use Rattle.rb_frac.specs.Ops.{V3}
 use Rattle.rb_frac.specs.Frac.{Frac, Same, fracs}
-use Rattle.rb_frac.specs.Tables.{Vectors, Tables, Symmetrics}
+use Rattle.rb_frac.specs.Tables.{Tables}
 use Rattle.rb_frac.specs.Spatial.{Frame, BodyInertia, BodyInertias}
 use Rattle.rb_num.specs.Interval.{Interval}
 use Rattle.rb_num.specs.Fraction.{LiesIn}

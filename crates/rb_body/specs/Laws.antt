@@ -1,5 +1,5 @@
 -- What the rules of a body mean at fractions.
-use Rattle.rb_frac.specs.Frac.{Frac, Same, fracs}
+use Rattle.rb_frac.specs.Frac.{Same, fracs}
 use Rattle.rb_frac.specs.Spatial.{BodyInertias}
 use Rattle.rb_num.specs.Arith.{fractions}
 use Rattle.rb_flat.specs.Turns.{roll_pitch_yaw}

@@ -1,16 +1,16 @@
 -- Fractions that are the same number: what respects that, and the rules over fractions.
-use Rattle.std.proofs.Common.{◌≡◌, ℕ, ◌<◌, pos, List, [], ◌∷◌, refl, sym, ◌∙◌, subst, lit<}
+use Rattle.std.proofs.Common.{◌≡◌, ℕ, pos, List, [], ◌∷◌, refl, sym, ◌∙◌, subst}
 use mathlib.Core.Path.{ap₂}
 use Rattle.rb_frac.specs.Frac as F
 use Rattle.rb_frac.specs.Frac.{Frac, Same, fracs, whole}
 use Rattle.rb_frac.specs.Ops.{V3, vadd, vscale, vdot}
 use Rattle.rb_frac.specs.Pairs as Pairs
 use Rattle.rb_frac.proofs.Reduce.{same_refl, same_sym, same_trans}
-use Rattle.rb_frac.proofs.Rational.{ℚ, ◌+ℚ◌, ◌*ℚ◌, ◌≤ℚ◌, sound, exact}
+use Rattle.rb_frac.proofs.Rational.{◌+ℚ◌, ◌*ℚ◌, sound, exact}
 use Rattle.rb_frac.proofs.Hom.{frac_ring, cls_of_add, cls_of_mul}
 use Rattle.rb_frac.proofs.Ring.{Expr, var, enul, expr}
 use Rattle.rb_frac.proofs.Vec.{nth, v3}
-use Rattle.rb_num.specs.Interval.{Interval, grid}
+use Rattle.rb_num.specs.Interval.{Interval}
 use Rattle.rb_num.specs.Fraction.{LiesIn}
 use Rattle.rb_num.specs.Arith.{fractions}
 use Rattle.rb_num.proofs.Bridges.{expressions}

@@ -12,4 +12,4 @@ new-requires c =
 pub returns-clause-ok : goal.returns-clause-ok
 returns-clause-ok c =
     let made : AllZip (IsBodyOf c.args.urdf.now) c.in_ok-order.order.items c.in_ok-bodies.bodies.items = rw (← c.as_slice.ensures.value) c.in_ok-bodies.ensures.ok in
-    rw c.in_ok-new.ensures (built c.args.urdf.now c.in_ok-order.order.items c.in_ok-bodies.bodies.items c.in_ok-name.name c.in_ok-order.ensures.ok c.in_ok-order.ensures.few c.in_ok-order.ensures.built made (c.in_ok-name.ensures ∙ c.name.ensures))
+    rw c.in_ok-new.ensures (built c.args.urdf.now c.in_ok-order.order.items c.in_ok-bodies.bodies.items c.in_ok-name.name c.in_ok-order.ensures.ok c.in_ok-order.ensures.few c.in_ok-order.ensures.built made (c.in_ok-name.ensures ∙ c.name.ensures.same))
