@@ -1,4 +1,6 @@
-use crate::{AnyJoint, Fixed, JointFault, JointModel, Prismatic, Revolute, frame_of};
+use crate::{
+    AnyJoint, Fixed, JointFault, JointModel, Prismatic, Quaternion, Revolute, SineCosine, frame_of,
+};
 use rb_num::{Iv, NumFault, S};
 use rb_spatial::{Frame, Mat3, Vec3};
 
@@ -112,4 +114,17 @@ fn refusals(rt: HostRuntime) {
     assert!(rt; matches!(slider.place(&[far]), Err(JointFault::Size)));
     let axis = Vec3::new(far, Iv::ZERO, Iv::ZERO);
     assert!(rt; matches!(Revolute::new(world(), axis), Err(NumFault::Size)));
+}
+
+fn is_shared<T: Send + Sync>() {}
+
+#[test]
+fn types_are_shared(_rt: HostRuntime) {
+    is_shared::<AnyJoint>();
+    is_shared::<Fixed>();
+    is_shared::<JointFault>();
+    is_shared::<Prismatic>();
+    is_shared::<Quaternion>();
+    is_shared::<Revolute>();
+    is_shared::<SineCosine>();
 }

@@ -1,6 +1,6 @@
 use crate::{
-    BodyInertia, Force, Inertia6, Mat3, Motion, Place, Vec3, apply, apply_dual, carry, cross,
-    cross_dual, less_outer, power, sum, table, times,
+    BodyInertia, Force, Frame, Inertia6, Mat3, Motion, Place, Sym3, Vec3, apply, apply_dual, carry,
+    cross, cross_dual, less_outer, power, sum, table, times,
 };
 use rb_num::{Iv, NumFault};
 use std::process::Abort;
@@ -237,4 +237,19 @@ fn refusals(rt: HostRuntime) -> Result<(), Fail> {
     let none = table(&body(0, (0, 0, 0), [0, 0, 0, 0, 0, 0]));
     assert_same(&rt, &sum(&heavy, &none)?, &heavy);
     Ok(())
+}
+
+fn is_shared<T: Send + Sync>() {}
+
+#[test]
+fn types_are_shared(_rt: HostRuntime) {
+    is_shared::<BodyInertia>();
+    is_shared::<Force>();
+    is_shared::<Frame>();
+    is_shared::<Inertia6>();
+    is_shared::<Mat3>();
+    is_shared::<Motion>();
+    is_shared::<Place>();
+    is_shared::<Sym3>();
+    is_shared::<Vec3>();
 }

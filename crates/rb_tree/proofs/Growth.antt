@@ -5,7 +5,8 @@ use Rattle.std.specs.List.{All}
 use Rattle.rb_urdf.specs.declared.robot.UrdfJoint.{UrdfJoint}
 use Rattle.rb_tree.specs.declared.order.Stem.{Stem}
 use Rattle.rb_tree.specs.Grow.{stem_at, AreNumbered, parent_link, child_link, link_of, parent_of, joint_of, HasLink, IsPart, IsGrown, IsNextStem}
-use Rattle.rb_tree.proofs.Placing.{below_or_last, part_of_one, part_more}
+use Rattle.rb_tree.proofs.Placing.{part_of_one, part_more}
+use Rattle.rb_tree.proofs.Answered.{below_or_last}
 use Rattle.rb_tree.proofs.Stems.{length_push, body_kept, body_last, links_extend, parents_extend, joints_extend, down_below}
 use Rattle.rb_tree.proofs.Pigeons.{fits, covers}
 

@@ -1,5 +1,5 @@
 -- Lists that grow at the end, and pairs of lists, item by item.
-use Rattle.std.proofs.Common.{◌≡◌, ◌≢◌, ℕ, zero, suc, ◌+◌, ◌<◌, List, [], ◌∷◌, ◌++◌, length, map, AllPairs, Some, ◌⊎◌, inl, inr, refl, sym, ◌∙◌, ap, subst, arith, get_or}
+use Rattle.std.proofs.Common.{◌≡◌, ◌≢◌, ℕ, zero, suc, ◌+◌, ◌<◌, List, [], ◌∷◌, ◌++◌, length, map, AllPairs, Some, inl, inr, refl, sym, ◌∙◌, ap, subst, arith, get_or}
 use Rattle.std.specs.List.{slice_get, sum_by, AllByRecursion, AllZip}
 use Rattle.std.proofs.lemmas.Bool.{cases_order}
 use Rattle.std.proofs.lemmas.List.{length-append}
@@ -7,6 +7,7 @@ use Rattle.std.proofs.lemmas.List.Sums.{sum_by-cons}
 use Rattle.std.proofs.lemmas.Option.{get_or_from_slice_get, slice_get_within, same_Some}
 use Rattle.rb_urdf.proofs.Zips.{slice_get-to_map}
 use Rattle.rb_tree.specs.Columns.{IsListOf}
+use Rattle.rb_tree.proofs.Answered.{below_or_last}
 
 pub slice_get-append_left : {X : Type 0} (xs ys : List X) (k : ℕ) → k < length xs → slice_get (xs ++ ys) k ≡ slice_get xs k
 slice_get-append_left [] ys k h = absurd (omega arith)
@@ -19,11 +20,6 @@ slice_get-append_seam [] y ys (suc k) h = absurd (omega arith)
 slice_get-append_seam (x ∷ xs) y ys zero h = absurd (omega arith)
 slice_get-append_seam (x ∷ xs) y ys (suc k) h = slice_get-append_seam xs y ys k (omega arith)
 
-at_or_below : (k n : ℕ) → k < n + 1 → (k < n) ⊎ (k ≡ n)
-at_or_below k zero h = inr (omega arith)
-at_or_below zero (suc n) h = inl (omega arith)
-at_or_below (suc k) (suc n) h = elim (at_or_below k n (omega arith)) [ inl p ↦ inl (omega arith) | inr p ↦ inr (omega arith) ]
-
 pub IsListOf-none : {X : Type 0} (f : ℕ → X) → IsListOf 0 f []
 IsListOf-none f = record { count = refl; at = λ k h. absurd (omega arith) }
 
@@ -31,7 +27,7 @@ pub IsListOf-push : {X : Type 0} (n : ℕ) (f : ℕ → X) (xs : List X) (y : X)
 IsListOf-push n f xs y l e = record {
   count = omega (arith, length-append xs (y ∷ []), l.count);
   at = λ k h.
-      elim (at_or_below k n h) [
+      elim (below_or_last k n h) [
         | inl p ↦ slice_get-append_left xs (y ∷ []) k (omega (arith, l.count)) ∙ l.at k p
         | inr p ↦ slice_get-append_seam xs y [] k (omega (arith, l.count)) ∙ ap Some (e ∙ ap f (sym p))
       ];

@@ -9,7 +9,7 @@ use Rattle.std.proofs.lemmas.Bool.{eqb-true, eqb-false, eq-eqb}
 use Rattle.std.proofs.lemmas.Map.Steps.{length-le_from_distinct_below}
 use Rattle.std.proofs.lemmas.Map.Made.{IsDistinct-from_AllPairs}
 use Rattle.rb_tree.specs.Grow.{IsPlaced}
-use Rattle.rb_tree.proofs.Placing.{below_or_last}
+use Rattle.rb_tree.proofs.Answered.{below_or_last}
 
 module _ (n m : ℕ) (f : ℕ → ℕ) (within : (i : ℕ) → i < n → f i < m) (differ : (i j : ℕ) → i < j → j < n → f i ≢ f j) where
   values : List ℕ

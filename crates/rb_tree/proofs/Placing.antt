@@ -1,13 +1,9 @@
 -- How a part of the order grows by one body, over any functions.
-use Rattle.std.proofs.Common.{◌≡◌, ◌≢◌, ◌<◌, ◌≤◌, ◌+◌, ◌⊎◌, ℕ, inl, inr, sym, ◌∙◌, ap, subst, arith}
+use Rattle.std.proofs.Common.{◌≡◌, ◌≢◌, ◌<◌, ◌≤◌, ◌+◌, ℕ, inl, inr, sym, ◌∙◌, ap, subst, arith}
 use Rattle.std.proofs.Math.Nat.{eq-or-lt_of_le}
 use Rattle.std.proofs.lemmas.Bool.{cases_order}
 use Rattle.rb_tree.specs.Grow.{IsPlaced, IsFull, IsNext, IsPart}
-
-pub below_or_last : (k m : ℕ) → k < m + 1 → (k < m) ⊎ (k ≡ m)
-below_or_last k m h =
-    let le : k ≤ m = omega arith in
-    elim (eq-or-lt_of_le le) [ inl e ↦ inr e | inr l ↦ inl l ]
+use Rattle.rb_tree.proofs.Answered.{below_or_last}
 
 -- the function g is f below m, and v at m
 pub record Extends (m : ℕ) (f g : ℕ → ℕ) (v : ℕ) : Type 0 where

@@ -1,6 +1,7 @@
 //! Orders and refusals over file texts, with places counted by hand.
 use crate::faults::{TreeFault, TreeKind, WhichFile};
 use crate::order::{Stem, order_of};
+use crate::robot::{Body, Mimic, Robot};
 use rb_tags::read_tags;
 use rb_urdf::read_urdf;
 use std::alloc::{AllocError, Global};
@@ -190,4 +191,16 @@ fn at_most_64_columns(rt: HostRuntime) -> Result<(), Fail> {
     let at = more.places.last().copied().unwrap_or(0);
     assert!(rt; has_fault(alloc, more.text.as_bytes(), TreeKind::TooManyColumns, at));
     Ok(())
+}
+
+fn is_shared<T: Send + Sync>() {}
+
+#[test]
+fn types_are_shared(_rt: HostRuntime) {
+    is_shared::<Body>();
+    is_shared::<Mimic>();
+    is_shared::<Robot>();
+    is_shared::<TreeFault>();
+    is_shared::<TreeKind>();
+    is_shared::<WhichFile>();
 }
