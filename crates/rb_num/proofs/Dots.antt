@@ -129,3 +129,15 @@ dot_is ps i low high q r s all few eq er =
     let rr : to_z w128 (of_z w128 r) ≡ n = read r (omega (arith, ints)) er' in
     let hh : to_z w128 (of_z w128 (pos 0 -ℤ to_z w128 (of_z w128 r))) ≡ neg_ℤ n = read (pos 0 -ℤ to_z w128 (of_z w128 r)) (omega (arith, ints)) (omega (arith, ints)) in
     dot_moved ps _ _ _ _ d (read q (omega (arith, ints)) eq) hh
+
+-- the quotients, as `narrow_dot` finds them
+pub dot_rounded : (ps : List (Interval × Interval)) (i : ℕ) (low high q r : ℤ) → SumsAre ps i low high → length ps ≤ i → i ≤ 64
+    → q ≡ floor_of low grid → r ≡ ceil_of high grid
+    → DotIs ps (to_z w128 (of_z w128 q)) (to_z w128 (of_z w128 r))
+dot_rounded ps i low high q r s all few eq er =
+    let d = dot_at ps i low high s all few in
+    let v = d.invariant in
+    let v1 : neg_ℤ (pos limit) ≤ℤ floor_of low grid = v.low in
+    let v2 : floor_of low grid ≤ℤ ceil_of high grid = v.ordered in
+    let v3 : ceil_of high grid ≤ℤ pos limit = v.high in
+    dot_moved ps _ _ _ _ d (read q (omega (arith, ints)) eq) (read r (omega (arith, ints)) er)

@@ -17,3 +17,6 @@ pub mod Same
 pub mod Examples
 pub mod Series
 pub mod Zeros
+pub mod Signs
+pub mod Small
+pub mod Chosen

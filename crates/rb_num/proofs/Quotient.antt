@@ -6,9 +6,9 @@ use Rattle.std.proofs.Math.Nat.{mul-le-mul_left}
 use Rattle.std.specs.Int.{int_min, int_max}
 use Rattle.rb_num.specs.Interval.{Interval, IsInterval, grid, limit, interval, IsWithin, negative_of}
 use Rattle.rb_num.specs.Dot.{floor_of, ceil_of}
-use Rattle.rb_num.specs.Quotient.{HasZero, floor_quotient, ceil_quotient, quotient_of, quotients_of, QuotientFits}
+use Rattle.rb_num.specs.Quotient.{HasZero, floor_quotient, ceil_quotient, least_of, greatest_of, quotient_of, quotients_of, QuotientFits}
 use mir.Syntax.{w128}
-use Rattle.rb_num.proofs.Ends.{Made, made, read, both}
+use Rattle.rb_num.proofs.Ends.{Made, made, read}
 use Rattle.rb_num.proofs.Ring.{at, nat, ◌⊗◌, minus, le_by, le_from, same_by}
 use Rattle.rb_num.proofs.Order.{times_pos}
 use Rattle.rb_num.proofs.Quotients.{grid_positive, cancel_pos, floor-low, floor-high, floor-le-ceil, ceil-high}
@@ -105,14 +105,6 @@ ends_nonzero b h n = record {
   high = λ e. n (record { low = omega (arith, ints, e); high = omega (arith, ints, e) });
 }
 
--- r reads as v
-pub record IsResult (r v : ℤ) : Type 0 where
-  pub read : to_z w128 (of_z w128 r) ≡ v
-
--- what a helper says of its result, at arguments that were read from their bits
-pub result_is : (f : ℤ → ℤ → ℤ) (r a b x y : ℤ) → r ≡ f a b → IsWithin r → a ≡ x → b ≡ y → IsResult r (f x y)
-result_is f r a b x y e h p q = record { read = read r (omega (arith, ints, h.above, h.below)) (e ∙ both f p q) }
-
 pub fits_back : (z : ℤ) → IsWithin z → to_z w128 (of_z w128 z) ≡ z
 fits_back z h = read z (omega (arith, ints, h.above, h.below)) refl
 
@@ -122,11 +114,6 @@ negative_read r v h e =
     let b = fits_back r h in
     let h1 = h.above in let h2 = h.below in
     read (pos 0 -ℤ to_z w128 (of_z w128 r)) (omega (arith, ints)) (omega (arith, ints))
-
-pub ceil_is : (z d r : ℤ) → IsWithin z → IsWithin d → IsWithin r
-    → r ≡ floor_quotient (to_z w128 (of_z w128 (pos 0 -ℤ to_z w128 (of_z w128 z)))) (to_z w128 (of_z w128 d))
-    → to_z w128 (of_z w128 (pos 0 -ℤ to_z w128 (of_z w128 r))) ≡ ceil_quotient z d
-ceil_is z d r h k i e = negative_read r (floor_quotient (neg_ℤ z) d) i (e ∙ both floor_quotient (negative_read z z h refl) (fits_back d k))
 
 least_and_greatest : (l1 l2 l3 l4 g1 g2 g3 g4 z : ℤ) → QuotientIsWithin z l1 g1 → QuotientIsWithin z l2 g2 → {w : ℤ} → QuotientIsWithin w l3 g3 → QuotientIsWithin w l4 g4
     → IsInterval (int_min (int_min l1 l2) (int_min l3 l4)) (int_max (int_max g1 g2) (int_max g3 g4))
@@ -139,21 +126,14 @@ least_and_greatest l1 l2 l3 l4 g1 g2 g3 g4 z a b c d = record {
 pub floor_within : (z d : ℤ) → IsWithin z → (d ≡ pos 0 → ⊥) → IsWithin (floor_quotient z d)
 floor_within z d h n = let w = quotient_within z d h n in record { above = w.low; below = omega (arith, ints, w.ordered, w.high) }
 
-pub ceil_within : (z d : ℤ) → IsWithin z → (d ≡ pos 0 → ⊥) → IsWithin (ceil_quotient z d)
-ceil_within z d h n = let w = quotient_within z d h n in record { above = omega (arith, ints, w.low, w.ordered); below = w.high }
-
-pub quotients_made : (x y c d r q l1 l2 l3 l4 g1 g2 g3 g4 : ℤ) → IsWithin x → IsWithin y → (c ≡ pos 0 → ⊥) → (d ≡ pos 0 → ⊥)
-    → r ≡ int_min (int_min (to_z w128 (of_z w128 l1)) (to_z w128 (of_z w128 l2))) (int_min (to_z w128 (of_z w128 l3)) (to_z w128 (of_z w128 l4)))
-    → q ≡ int_max (int_max (to_z w128 (of_z w128 g1)) (to_z w128 (of_z w128 g2))) (int_max (to_z w128 (of_z w128 g3)) (to_z w128 (of_z w128 g4)))
-    → IsResult l1 (floor_quotient x c) → IsResult l2 (floor_quotient x d) → IsResult l3 (floor_quotient y c) → IsResult l4 (floor_quotient y d)
-    → IsResult g1 (ceil_quotient x c) → IsResult g2 (ceil_quotient x d) → IsResult g3 (ceil_quotient y c) → IsResult g4 (ceil_quotient y d)
+pub quotients_made : (x y c d r q : ℤ) → IsWithin x → IsWithin y → (c ≡ pos 0 → ⊥) → (d ≡ pos 0 → ⊥)
+    → r ≡ least_of floor_quotient x y c d → q ≡ greatest_of ceil_quotient x y c d
     → Made (quotients_of x y c d) (to_z w128 (of_z w128 r)) (to_z w128 (of_z w128 q))
 unfolding quotients_of
-quotients_made x y c d r q l1 l2 l3 l4 g1 g2 g3 g4 hx hy nc nd er eq a1 a2 a3 a4 b1 b2 b3 b4 =
+quotients_made x y c d r q hx hy nc nd er eq =
     made (quotients_of x y c d) r q
     (least_and_greatest _ _ _ _ _ _ _ _ _ (quotient_within x c hx nc) (quotient_within x d hx nd) (quotient_within y c hy nc) (quotient_within y d hy nd))
-    (er ∙ both int_min (both int_min a1.read a2.read) (both int_min a3.read a4.read))
-    (eq ∙ both int_max (both int_max b1.read b2.read) (both int_max b3.read b4.read))
+    er eq
 
 pub quotient_is_interval : (a b : Interval) → b.lo ≤ℤ b.hi → QuotientFits a b → IsInterval (quotient_of a b).lo (quotient_of a b).hi
 unfolding quotient_of quotients_of

@@ -1,13 +1,17 @@
 ghost use Rattle.std.specs.Prelude.{◌≡◌, ℤ, pos, ◌≤ℤ◌, ◌*ℤ◌, ◌≤◌, ◌↔◌, IsTrue, IfOk, IfErr, IfSome, OkIff, SomeIff, ◌≢◌, length, Result, Err};
-ghost use Rattle.rb_num.specs.Interval.{Interval, IsInterval, IsWithin, EndsFit, interval, sum_of, difference_of, negative_of};
+ghost use Rattle.rb_num.specs.Interval.{Interval, IsInterval, IsWithin, EndsFit, grid, interval, sum_of, difference_of, negative_of};
 ghost use Rattle.std.specs.Int.{int_min, int_max};
+ghost use Rattle.rb_num.specs.Divisor.{IsDivisor};
+ghost use Rattle.rb_num.specs.Narrow.{IsNarrow};
 ghost use Rattle.rb_num.specs.Refusing.{iv_add, iv_sub, iv_div};
 ghost use Rattle.rb_num.specs.Fraction.{EnclosesNegative, EnclosesSum, EnclosesDifference, EnclosesDot, EnclosesHull, EnclosesMeet, IsWithinBoth, EnclosesQuotient};
 ghost use Rattle.rb_num.specs.Dot.{ProductsFit, DotFits, least_product, greatest_product, dot_of, iv_dot};
 ghost use Rattle.rb_num.specs.Least.{IsLeast, HasSums, HasQuotients, HasBoth};
 ghost use Rattle.rb_num.specs.Hull.{hull_of, meet_of, Meet, do_meet};
-ghost use Rattle.rb_num.specs.Quotient.{HasZero, floor_quotient as floor_quotient_of, ceil_quotient as ceil_quotient_of, quotient_of, quotients_of, QuotientFits, IsQuotientFault};
+ghost use Rattle.rb_num.specs.Quotient.{HasZero, floor_quotient as floor_quotient_of, quotient_of, quotients_of, least_of, QuotientFits, IsQuotientFault};
 
+use crate::narrow::{self, Narrow};
+use crate::rounding::{rounded_down, rounded_up};
 use std::marker::Model;
 
 /// The grid: `S` units make one. Each end of an interval counts units.
@@ -16,6 +20,13 @@ pub const S: i128 = 1_000_000_000_000;
 /// The limit, 2^120 units: no end of an interval, and no product on the way to one, is larger in
 /// size.
 pub const B: i128 = 1_329_227_995_784_915_872_903_807_060_280_344_576;
+
+// No larger number times `S` is within the limit.
+const SCALABLE: i128 = B / S;
+
+// An interval is narrow where its ends are at most 2^60 units in size: a product of two such ends is
+// never larger than `B`.
+const NARROW: i128 = 1 << 60;
 
 /// Why an operation on intervals is refused.
 #[derive(Clone, Copy, Debug, PartialEq, Eq)]
@@ -60,7 +71,7 @@ fn checked(lo: i128, hi: i128) -> Result<Iv, NumFault>
     ensures exact { OkIff result (EndsFit (interval lo hi)) (interval lo hi) }
     ensures fault { IfErr result (λ e. e ≡ NumFault.Size) }
 {
-    if is_within(lo) && is_within(hi) {
+    if -B <= lo && hi <= B {
         Ok(Iv { lo, hi })
     } else {
         Err(NumFault::Size)
@@ -75,6 +86,19 @@ fn product(x: i128, y: i128) -> Result<i128, NumFault>
     match x.checked_mul(y) {
         Some(z) if is_within(z) => Ok(z),
         _ => Err(NumFault::Size),
+    }
+}
+
+// The end times `S`, where that is within the limit.
+#[inline]
+fn scaled(end: i128) -> Result<i128, NumFault>
+    ensures exact { OkIff result (IsWithin (end *ℤ pos grid)) (end *ℤ pos grid) }
+    ensures fault { IfErr result (λ e. e ≡ NumFault.Size) }
+{
+    if -SCALABLE <= end && end <= SCALABLE {
+        Ok(end * S)
+    } else {
+        Err(NumFault::Size)
     }
 }
 
@@ -121,50 +145,58 @@ fn floor_quotient(z: i128, d: i128) -> i128
     }
 }
 
-// `z / d`, rounded up.
-#[tactic(auto, using(crate::proofs::Quotient::ceil_within))]
-fn ceil_quotient(z: i128, d: i128) -> i128
-    requires small { IsWithin z }
-    requires small_divisor { IsWithin d }
-    requires divisor { d ≢ pos 0 }
-    ensures value { result ≡ ceil_quotient_of z d }
+// The least quotient of both numbers by both divisors, rounded down: the signs tell which it is.
+fn least_quotient(low: i128, high: i128, by_low: i128, by_high: i128) -> i128
+    requires small { IsWithin low × IsWithin high × IsWithin by_low × IsWithin by_high }
+    requires ordered { low ≤ℤ high }
+    requires sign { IsDivisor by_low by_high }
+    ensures value { result ≡ least_of floor_quotient_of low high by_low by_high }
     ensures within { IsWithin result }
 {
-    -floor_quotient(-z, d)
+    let end = if 0 < by_low { low } else { high };
+    let by = if end < 0 { by_low } else { by_high };
+    floor_quotient(end, by)
 }
 
 // The quotients of both numbers by both divisors, rounded outwards.
 fn quotients(low: i128, high: i128, by_low: i128, by_high: i128) -> Iv
     requires small { IsWithin low × IsWithin high × IsWithin by_low × IsWithin by_high }
-    requires divisors { (by_low ≢ pos 0) × (by_high ≢ pos 0) }
+    requires ordered { low ≤ℤ high }
+    requires sign { IsDivisor by_low by_high }
     ensures { result ≡ quotients_of low high by_low by_high }
 {
-    let lo = least(
-        floor_quotient(low, by_low),
-        floor_quotient(low, by_high),
-        floor_quotient(high, by_low),
-        floor_quotient(high, by_high),
-    );
-    let hi = greatest(
-        ceil_quotient(low, by_low),
-        ceil_quotient(low, by_high),
-        ceil_quotient(high, by_low),
-        ceil_quotient(high, by_high),
-    );
+    let lo = least_quotient(low, high, by_low, by_high);
+    let hi = -least_quotient(-high, -low, by_low, by_high);
     Iv { lo, hi }
 }
 
-/// The sum of the products of the pairs, of which there are at most 64.
-///
-/// With `L` the sum of each pair's least product of ends, and `H` that of the greatest, it is the
-/// least interval with `lo * S <= L` and `hi * S >= H`: only the two sums are rounded. It is refused with `Size` exactly where a product of an end of a pair's first interval
-/// and an end of its second is larger in size than `B`, and never with `Zero`.
-pub fn dot(pairs: &[(Iv, Iv)]) -> Result<Iv, NumFault>
+// The same as `dot`, where all intervals are narrow and the sums are near: then no product is tested,
+// and nothing is divided.
+#[inline(always)]
+fn narrow_dot(pairs: &[(Iv, Iv)]) -> Option<Iv>
     requires { length pairs.now ≤ 64 }
-    ensures exact { result ≡ iv_dot pairs.now }
+    ensures { IfSome result (λ v. DotFits pairs.now × (v ≡ dot_of pairs.now)) }
+{
+    let mut low: i128 = 0;
+    let mut high: i128 = 0;
+    for pair in pairs {
+        let a = pair.0.narrow()?;
+        let b = pair.1.narrow()?;
+        let (least, greatest) = narrow::product_ends(a, b);
+        low += least;
+        high += greatest;
+    }
+    let lo = rounded_down(low)?;
+    let hi = rounded_up(high)?;
+    Some(Iv { lo, hi })
+}
+
+// The same as `dot`, for intervals of any size.
+#[cold]
+#[inline(never)]
+fn wide_dot(pairs: &[(Iv, Iv)]) -> Result<Iv, NumFault>
+    requires { length pairs.now ≤ 64 }
     ensures value { OkIff result (DotFits pairs.now) (dot_of pairs.now) }
-    ensures least { IfOk result (IsLeast (HasSums pairs.now)) }
-    ensures encloses { IfOk result (EnclosesDot pairs.now) }
     ensures fault { IfErr result (λ e. e ≡ NumFault.Size) }
 {
     let mut low: i128 = 0;
@@ -178,6 +210,26 @@ pub fn dot(pairs: &[(Iv, Iv)]) -> Result<Iv, NumFault>
         lo: low.div_euclid(S),
         hi: -(-high).div_euclid(S),
     })
+}
+
+/// The sum of the products of the pairs, of which there are at most 64.
+///
+/// With `L` the sum of each pair's least product of ends, and `H` that of the greatest, it is the
+/// least interval with `lo * S <= L` and `hi * S >= H`: only the two sums are rounded. It is refused with `Size` exactly where a product of an end of a pair's first interval
+/// and an end of its second is larger in size than `B`, and never with `Zero`.
+#[inline(always)]
+pub fn dot(pairs: &[(Iv, Iv)]) -> Result<Iv, NumFault>
+    requires { length pairs.now ≤ 64 }
+    ensures exact { result ≡ iv_dot pairs.now }
+    ensures value { OkIff result (DotFits pairs.now) (dot_of pairs.now) }
+    ensures least { IfOk result (IsLeast (HasSums pairs.now)) }
+    ensures encloses { IfOk result (EnclosesDot pairs.now) }
+    ensures fault { IfErr result (λ e. e ≡ NumFault.Size) }
+{
+    match narrow_dot(pairs) {
+        Some(sum) => Ok(sum),
+        None => wide_dot(pairs),
+    }
 }
 
 impl Iv {
@@ -209,6 +261,22 @@ impl Iv {
         ensures bounds { IsInterval self.lo self.hi }
     {
         self.hi
+    }
+
+    // The ends of an interval that is narrow.
+    #[inline]
+    fn narrow(self) -> Option<Narrow>
+        ensures ends { IfSome result (λ n. interval n.lo n.hi ≡ self) }
+        ensures small { IfSome result (λ n. IsNarrow n.lo n.hi) }
+    {
+        if -NARROW <= self.lo && self.hi <= NARROW {
+            Some(Narrow {
+                lo: self.lo as i64,
+                hi: self.hi as i64,
+            })
+        } else {
+            None
+        }
     }
 
     /// The negatives. Nothing is rounded.
@@ -281,8 +349,8 @@ impl Iv {
         if by.has_zero() {
             return Err(NumFault::Zero);
         }
-        let low = product(self.lo, S)?;
-        let high = product(self.hi, S)?;
+        let low = scaled(self.lo)?;
+        let high = scaled(self.hi)?;
         Ok(quotients(low, high, by.lo, by.hi))
     }
 
@@ -332,6 +400,63 @@ mod tests {
         assert_eq!(rt; low.meet(Iv::new(1, 7)), Some(Iv::new(1, 2)));
         assert!(rt; !low.meets(Iv::new(3, 7)));
         assert_eq!(rt; low.meet(Iv::new(3, 7)), None);
+    }
+
+    // Where the sums are near by one unit, and where they are not. The expected ends were worked out
+    // elsewhere.
+    #[test]
+    fn vectors_at_the_edge(rt: HostRuntime) {
+        assert_eq!(rt;
+            dot(&[(
+                Iv::new(1152921504606846975, 1152921504606846976),
+                Iv::new(999999999999, 1000000000000)
+            )]),
+            Ok(Iv::new(1152921504605694053, 1152921504606846976))
+        );
+        assert_eq!(rt;
+            dot(&[(
+                Iv::new(-1152921504606846976, -1152921504606846975),
+                Iv::new(999999999999, 1000000000000)
+            )]),
+            Ok(Iv::new(-1152921504606846976, -1152921504605694053))
+        );
+        assert_eq!(rt;
+            dot(&[
+                (
+                    Iv::new(1152921504606846975, 1152921504606846975),
+                    Iv::new(1000000000000, 1000000000000)
+                ),
+                (Iv::new(0, 1), Iv::new(1, 1000000000000))
+            ]),
+            Ok(Iv::new(1152921504606846975, 1152921504606846976))
+        );
+        assert_eq!(rt;
+            dot(&[
+                (
+                    Iv::new(-1152921504606846976, -1152921504606846975),
+                    Iv::new(1000000000000, 1000000000000)
+                ),
+                (Iv::new(-1, 0), Iv::new(1, 1))
+            ]),
+            Ok(Iv::new(-1152921504606846977, -1152921504606846975))
+        );
+        assert_eq!(rt;
+            dot(&[(Iv::new(-3, 5), Iv::new(-7, 1000000000011))]),
+            Ok(Iv::new(-4, 6))
+        );
+        assert_eq!(rt;
+            dot(&[
+                (
+                    Iv::new(-5000000000000, 7000000000000),
+                    Iv::new(-3000000000000, 2000000000000)
+                ),
+                (
+                    Iv::new(-9000000000000, -2000000000000),
+                    Iv::new(-4000000000000, -3000000000000)
+                )
+            ]),
+            Ok(Iv::new(-15000000000000, 51000000000000))
+        );
     }
 
     // The expected ends were worked out elsewhere, with exact fractions.
