@@ -14,9 +14,10 @@ use Rattle.rb_num.specs.Dot.{floor_of, ceil_of}
 use Rattle.rb_num.proofs.Quotients.{floor-low, floor-high, ceil-low, ceil-high}
 use Rattle.rb_text.specs.declared.bracket.TextFault.{TextFault}
 use Rattle.rb_text.specs.declared.bracket.TextFault.TheVariants.{NotNumber, TooLarge, Backwards}
-use Rattle.rb_text.specs.Decimal.{decimal_from, decimal_of, lower_of, upper_of, numerator_of, denominator_of, exact_value}
+use Rattle.rb_text.specs.Decimal.{Decimal, decimal_from, decimal_of, lower_of, upper_of, numerator_of, denominator_of, exact_value}
 use Rattle.rb_text.specs.Range.{Number, single, range, IsWritten, Halves, split_of, single_of, range_of, number_of_halves, number_of}
 use Rattle.rb_text.specs.Bracket.{is_large, rounded, bracket_of_value, between, bracket_of_range, bracket_of_number, bracket_of, IsRounded, IsSpan, IsBracketOf, IsBracket, IsNumber, IsLarge, HasLarge, IsLargeNumber, IsBackwards}
+use Rattle.rb_text.proofs.Grammar.{decimal_is}
 use Rattle.rb_text.proofs.Numbers.{number_is, number_read}
 use Rattle.rb_text.specs.declared.size.TheConstants.{LARGEST}
 use Rattle.rb_num.specs.Least.{IsLeast}
@@ -402,3 +403,10 @@ bracket_halves text first second e = ap (λ (o : Option Halves). bracket_of_numb
 pub bracket_whole : (text : List ℕ) → split_of text ≡ None → bracket_of_number (single_of (decimal_of text)) ≡ bracket_of text
 unfolding bracket_of number_of
 bracket_whole text e = ap (λ (o : Option Halves). bracket_of_number (number_of_halves text o)) (sym e)
+
+pub bracket_single : (text : List ℕ) (d : Decimal) → decimal_of text ≡ Some d → bracket_of_value (exact_value d) ≡ bracket_of text
+unfolding bracket_of
+bracket_single text d e = sym (ap bracket_of_number (number_read text (single d) (decimal_is text d e)))
+
+pub bracket_neither : (text : List ℕ) → decimal_of text ≡ None → split_of text ≡ None → Err NotNumber ≡ bracket_of text
+bracket_neither text e f = sym (ap (λ (o : Option Decimal). bracket_of_number (single_of o)) e) ∙ bracket_whole text f

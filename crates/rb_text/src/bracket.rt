@@ -1,9 +1,9 @@
-ghost use Rattle.std.specs.Prelude.{◌≡◌, ◌≤◌, ◌*◌, ◌↔◌, IfOk, pos, neg_ℤ, if◌then◌else◌};
+ghost use Rattle.std.specs.Prelude.{◌≡◌, None, ◌≤◌, ◌*◌, ◌↔◌, IfOk, pos, neg_ℤ, if◌then◌else◌};
 ghost use Rattle.std.specs.List.{AllPass};
 ghost use Rattle.std.specs.Char.{is_ascii_digit};
 ghost use Rattle.rb_num.specs.Interval.{interval, grid};
 ghost use Rattle.rb_text.specs.Decimal.{decimal_from, exact_value, decimal_of, lower_of, upper_of};
-ghost use Rattle.rb_text.specs.Range.{single_of, range_of};
+ghost use Rattle.rb_text.specs.Range.{range_of};
 ghost use Rattle.rb_text.specs.Bracket.{bracket_of, bracket_of_number, bracket_of_value, between as between_of, IsBracket, IsNumber, IsLargeNumber, IsBackwards};
 ghost use Rattle.rb_text.specs.declared.size.TheConstants.{LARGEST};
 
@@ -52,16 +52,6 @@ fn bracket(decimal: Decimal<'_>) -> Result<Iv, TextFault>
     }
 }
 
-// The bracket of a text that is one number.
-fn single(text: &[u8]) -> Result<Iv, TextFault>
-    ensures { result ≡ bracket_of_number (single_of (decimal_of text.now)) }
-{
-    match read_decimal(text) {
-        Some(decimal) => bracket(decimal),
-        None => Err(TextFault::NotNumber),
-    }
-}
-
 // From the lower end of the first to the upper end of the second.
 #[tactic(auto, unfolding(crate::specs::Bracket::between))]
 fn between(first: Iv, second: Iv) -> Result<Iv, TextFault>
@@ -84,6 +74,17 @@ fn range(first: &[u8], second: &[u8]) -> Result<Iv, TextFault>
     }
 }
 
+// The bracket of a text that is not one number.
+fn read_range(text: &[u8]) -> Result<Iv, TextFault>
+    requires { decimal_of text.now ≡ None }
+    ensures { result ≡ bracket_of text.now }
+{
+    match split(text) {
+        Some((first, second)) => range(first, second),
+        None => Err(TextFault::NotNumber),
+    }
+}
+
 /// The bracket of a number text, in units of one part in 10^12. It takes no memory.
 ///
 /// A number is an optional sign, digits with at most one point and at least one digit, and an
@@ -98,9 +99,9 @@ pub fn read_bracket(text: &[u8]) -> Result<Iv, TextFault>
     ensures too_large { (result ≡ Err TextFault.TooLarge) ↔ IsLargeNumber text.now }
     ensures backwards { (result ≡ Err TextFault.Backwards) ↔ IsBackwards text.now }
 {
-    match split(text) {
-        Some((first, second)) => range(first, second),
-        None => single(text),
+    match read_decimal(text) {
+        Some(decimal) => bracket(decimal),
+        None => read_range(text),
     }
 }
 

@@ -1,4 +1,4 @@
-ghost use Rattle.std.specs.Prelude.{◌≡◌, ◌≤◌, ◌<◌, ◌-◌, ◌+◌, [], ◌++◌, length, IfOk};
+ghost use Rattle.std.specs.Prelude.{◌≡◌, ◌≤◌, ◌<◌, ◌-◌, ◌+◌, ◌/◌, ◌%◌, [], ◌++◌, length, IfOk};
 ghost use Rattle.rb_num.specs.Interval.{IsWithin, grid};
 ghost use Rattle.rb_text.specs.Print.{part_text, minus_text, end_text, iv_text, Says};
 
@@ -7,6 +7,24 @@ use itoa::Buffer;
 use rb_num::Iv;
 use std::alloc::{AllocError, Global};
 use std::marker::Model;
+
+// `UNITS`, in 64 bits.
+const UNITS_SHORT: u64 = UNITS as u64;
+
+// How many whole ones are in so many units, and how many units are left. Most numbers fit 64 bits, where
+// this is quicker.
+#[inline]
+fn ones_and_units(size: u128) -> (u128, u64)
+    ensures ones { result.0 ≡ size / grid }
+    ensures units { result.1 ≡ size % grid }
+{
+    if size <= u64::MAX as u128 {
+        let size = size as u64;
+        (u128::from(size / UNITS_SHORT), size % UNITS_SHORT)
+    } else {
+        (size / UNITS, (size % UNITS) as u64)
+    }
+}
 
 /// A byte buffer of fixed room: nothing that is put to it takes memory.
 #[derive(Drop)]
@@ -107,11 +125,11 @@ impl Out {
         ensures says { Says (end_text end) end }
     {
         self.put_sign(end);
-        let size = end.unsigned_abs();
+        let (ones, units) = ones_and_units(end.unsigned_abs());
         let mut buffer = Buffer::new();
-        self.put(buffer.format(size / UNITS).as_bytes());
+        self.put(buffer.format(ones).as_bytes());
         self.put(b".");
-        self.put_part((size % UNITS) as u64);
+        self.put_part(units);
     }
 
     /// Puts an interval: its lower end, two points, its upper end.

@@ -20,6 +20,9 @@ pub const LARGEST: u128 = 1_000_000_000_000;
 /// The largest size of a number, in units.
 const MOST: u128 = LARGEST * UNITS;
 
+// Nine digits behind a number below this make one that fits 64 bits.
+const SHORT: u128 = 1_000_000_000;
+
 /// Past this exponent no digit of a text matters any more.
 const FARTHEST: u128 = 1_000_000_000_000_000_000_000_000_000_000;
 
@@ -91,12 +94,30 @@ fn cut_digits<'a>(whole: &'a [u8], part: &'a [u8], cut: u128) -> (Digits<'a>, Di
     )
 }
 
+// The number that at most nine digits write behind those of `start`.
+fn short_value_behind(start: u64, digits: &[u8]) -> u64
+    requires digits { AllPass is_ascii_digit digits.now }
+    requires small { start < 10 ^ 9 }
+    requires short { length digits.now ≤ 9 }
+    ensures value { result ≡ digits_value_after 10 start digits.now }
+    ensures small { result < 10 ^ 18 }
+{
+    let mut value = start;
+    for digit in digits {
+        value = value * 10 + u64::from(*digit - b'0');
+    }
+    value
+}
+
 // The number that the digits write behind those of `start`, where it is not above `MOST`.
 fn value_behind(start: u128, digits: &[u8]) -> Option<u128>
     requires digits { AllPass is_ascii_digit digits.now }
     requires small { start ≤ LARGEST * grid }
     ensures { let value = digits_value_after 10 start digits.now in SomeIff result (value ≤ LARGEST * grid) value }
 {
+    if start < SHORT && digits.len() <= 9 {
+        return Some(u128::from(short_value_behind(start as u64, digits)));
+    }
     let mut value = start;
     for digit in digits {
         value = value * 10 + u128::from(*digit - b'0');
@@ -107,11 +128,47 @@ fn value_behind(start: u128, digits: &[u8]) -> Option<u128>
     Some(value)
 }
 
+// 10 to a power of at most 12.
+fn power_of_ten(exponent: u8) -> u64
+    requires { exponent ≤ 12 }
+    ensures value { result ≡ 10 ^ exponent }
+    ensures small { result ≤ grid }
+{
+    match exponent {
+        0 => 1,
+        1 => 10,
+        2 => 100,
+        3 => 1_000,
+        4 => 10_000,
+        5 => 100_000,
+        6 => 1_000_000,
+        7 => 10_000_000,
+        8 => 100_000_000,
+        9 => 1_000_000_000,
+        10 => 10_000_000_000,
+        11 => 100_000_000_000,
+        _ => 1_000_000_000_000,
+    }
+}
+
+// The number with at most twelve zeros behind its last digit, where it is not above `MOST`.
+fn with_few_zeros(number: u128, zeros: u8) -> Option<u128>
+    requires small { number ≤ LARGEST * grid }
+    requires few { zeros ≤ 12 }
+    ensures { SomeIff result (number * 10 ^ zeros ≤ LARGEST * grid) (number * 10 ^ zeros) }
+{
+    let value = number * u128::from(power_of_ten(zeros));
+    if value > MOST { None } else { Some(value) }
+}
+
 // The number with zeros behind its last digit, where it is not above `MOST`.
 fn with_zeros(number: u128, zeros: u128) -> Option<u128>
     requires { number ≤ LARGEST * grid }
     ensures { SomeIff result (number * 10 ^ zeros ≤ LARGEST * grid) (number * 10 ^ zeros) }
 {
+    if zeros <= 12 {
+        return with_few_zeros(number, zeros as u8);
+    }
     if number == 0 {
         return Some(0);
     }
