@@ -3,13 +3,14 @@ ghost use Rattle.rb_num.specs.Dot.{ProductsFit};
 ghost use Rattle.rb_trig.specs.Sine.{divisor as divisor_of, nested as nested_of, step as step_of, square_of, IsSquare, IsAngle, sines, cosines, sin_cos_of, Encloses};
 
 use crate::ends::{clamp, outward, products, squares};
+use crate::scale::{outward_by_scale, outward_by_small};
 use rb_num::{Iv, S};
 
 /// The largest size of an angle, in units: eight radians.
 pub const ANGLE_LIMIT: i128 = 8 * S;
 
-// The nested products count parts of one in this number.
-const T: i128 = 10_000_000_000_000_000;
+/// The nested products count parts of one in this number.
+pub const T: i128 = 10_000_000_000_000_000;
 
 // How many terms the shorter sum has.
 const TERMS: u64 = 24;
@@ -63,7 +64,8 @@ fn step(square: Iv, sum: Iv, divisor: i128) -> Iv
     requires high { divisor <ℤ pos (2 ^ 62) }
     ensures { result ≡ step_of square sum divisor }
 {
-    let part = outward(products(square, sum), T * divisor);
+    let whole = outward_by_scale(products(square, sum));
+    let part = outward_by_small(whole, divisor);
     Iv::new(T - part.hi(), T - part.lo())
 }
 
@@ -75,7 +77,7 @@ fn sine(angle: Iv, square: Iv, terms: u64) -> Iv
     requires few { terms < 2 ^ 30 }
     ensures { result ≡ sines angle square terms }
 {
-    outward(products(angle, Series::Sine.nested(square, terms)), T)
+    outward_by_scale(products(angle, Series::Sine.nested(square, terms)))
 }
 
 // The cosine's sum of this many terms.
