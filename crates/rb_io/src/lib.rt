@@ -1,7 +1,8 @@
 //! Sources and sinks of bytes: what is read, what is written, and a count of the calls that failed.
 //!
 //! The forms in memory tell their bytes. The adapters over the machine's files and streams tell
-//! none, and are trusted.
+//! none: what a file or a stream holds is trusted. Their contracts say that they pass on the very
+//! bytes that the stream below gave or took.
 #![tactic(auto)]
 
 mod calls;

@@ -2,7 +2,6 @@ use crate::{
     Bytes, Failed, FileFault, FileInputs, Inputs, MemInputs, MemSink, NoFaultsInputs, NoFaultsSink,
     Sink, StdSink, put_all, read_all,
 };
-use std::fs;
 use std::test::Fail;
 
 #[test]
@@ -61,34 +60,6 @@ fn a_full_sink_without_faults_keeps_nothing_more(rt: HostRuntime) -> Result<(), 
     Ok(())
 }
 
-#[test]
-fn files_are_read_by_name(rt: HostRuntime) -> Result<(), Fail> {
-    let alloc = rt.alloc();
-    let name = "rb_io_test_input.txt";
-    fs::write(&rt, name, b"two lines\nof text\n")?;
-    let mut inputs = FileInputs::new(&rt);
-    let mut buf = [0u8; 8];
-    assert_eq!(rt; inputs.read(&mut buf), Ok(0));
-    let whole = read_all(alloc, &mut inputs, name, 100);
-    fs::remove_file(&rt, name)?;
-    assert!(rt; whole.is_ok_and(|bytes| bytes.as_slice() == b"two lines\nof text\n".as_slice()));
-    let missing = read_all(alloc, &mut inputs, name, 100);
-    assert!(rt; missing.is_err_and(|fault| fault == FileFault::Failed));
-    assert_eq!(rt; inputs.read(&mut buf), Ok(0));
-    Ok(())
-}
-
-#[test]
-fn a_stream_that_takes_nothing_fails(rt: HostRuntime) -> Result<(), Fail> {
-    let mut room = [0u8; 4];
-    let mut sink = StdSink::new(room.as_mut_slice());
-    assert_eq!(rt; put_all(&mut sink, b"abc"), Ok(()));
-    assert_eq!(rt; put_all(&mut sink, b"de"), Err(Failed));
-    assert_eq!(rt; sink.write(b""), Ok(0));
-    assert_eq!(rt; room.as_slice(), b"abcd".as_slice());
-    Ok(())
-}
-
 fn is_shared<T: Send + Sync>() {}
 
 #[test]
@@ -100,7 +71,7 @@ fn threads_may_move_and_share_each_type(_rt: HostRuntime) -> Result<(), Fail> {
     is_shared::<MemSink>();
     is_shared::<NoFaultsInputs>();
     is_shared::<NoFaultsSink>();
-    is_shared::<FileInputs<'static, HostRuntime>>();
+    is_shared::<FileInputs<'static, HostRuntime, <HostRuntime as Input>::Reader>>();
     is_shared::<StdSink<Vec<u8>>>();
     Ok(())
 }
