@@ -137,12 +137,12 @@ clamp_makes v r q x y h ex ey er eq =
 from_scale : (a e : ℤ) → a ≡ e → IsWithin e → IsWithin (pos scale -ℤ e) → held (pos scale -ℤ a) ≡ pos scale -ℤ e
 from_scale a e p h k = read (pos scale -ℤ a) (omega (arith, ints, p, h.above, h.below)) (ap (λ (z : ℤ). pos scale -ℤ z) p)
 
-step_at : (u h part p : Interval) (d D x y : ℤ) (n : ℕ) → d ≡ pos n → 0 < n → ProductsFit (u, h) → p ≡ products u h → D ≡ pos (scale * n) → part ≡ outward p D
+step_at : (u h part p : Interval) (x y : ℤ) (n : ℕ) → 0 < n → ProductsFit (u, h) → p ≡ products u h → part ≡ outward p (pos (scale * n))
     → IsInterval part.lo part.hi → x ≡ part.hi → y ≡ part.lo → Makes (step u h (pos n)) (held (pos scale -ℤ x)) (held (pos scale -ℤ y))
 unfolding step
-step_at u h part p d D x y n en some f ep ed eo i ex ey =
+step_at u h part p x y n some f ep eo i ex ey =
     let w = step_is_interval u h n some f in
-    let e : part ≡ outward (products u h) (pos (scale * n)) = eo ∙ ap (λ (v : Interval). outward v D) ep ∙ ap (λ (z : ℤ). outward (products u h) z) ed in
+    let e : part ≡ outward (products u h) (pos (scale * n)) = eo ∙ ap (λ (v : Interval). outward v (pos (scale * n))) ep in
     let v : Interval = difference_of (interval (pos scale) (pos scale)) part in
     let back : v ≡ step u h (pos n) = ap (λ (t : Interval). difference_of (interval (pos scale) (pos scale)) t) e in
     let wv : Within limit v = subst (λ (t : Interval). Within limit t) (sym back) w in
@@ -151,16 +151,10 @@ step_at u h part p d D x y n en some f ep ed eo i ex ey =
     (from_scale x part.hi ex (record { above = omega (arith, ints, i.low, i.ordered); below = i.high }) (record { above = wv.low; below = omega (arith, ints, wv.ordered, wv.high) }))
     (from_scale y part.lo ey (record { above = i.low; below = omega (arith, ints, i.ordered, i.high) }) (record { above = omega (arith, ints, wv.low, wv.ordered); below = wv.high })))
 
-scaled_held : (d : ℤ) (n : ℕ) → d ≡ pos n → n < 2 ^ 62 → held (pos scale *ℤ held d) ≡ pos (scale * n)
-scaled_held d n e h =
-    let f : SFits w128 d = omega (arith, ints, e) in
-    read (pos scale *ℤ held d) (omega (arith, ints)) (ap (λ (z : ℤ). pos scale *ℤ z) (read d f e))
-
-pub step_makes : (u h part p : Interval) (d x y : ℤ) → pos 0 <ℤ d → d <ℤ pos (2 ^ 62) → ProductsFit (u, h) → p ≡ products u h → part ≡ outward p (held (pos scale *ℤ held d))
+pub step_makes : (u h part p : Interval) (d x y : ℤ) → pos 0 <ℤ d → ProductsFit (u, h) → p ≡ products u h → part ≡ outward p (pos scale *ℤ d)
     → IsInterval part.lo part.hi → x ≡ part.hi → y ≡ part.lo → Makes (step u h d) (held (pos scale -ℤ x)) (held (pos scale -ℤ y))
-step_makes u h part p (pos n) x y some few f ep eo i ex ey =
-    step_at u h part p (pos n) _ x y n refl (omega (arith, ints, some)) f ep (scaled_held (pos n) n refl (omega (arith, ints, few))) eo i ex ey
-step_makes u h part p (negsuc n) x y some few f ep eo i ex ey = absurd (omega (arith, ints, some))
+step_makes u h part p (pos n) x y some f ep eo i ex ey = step_at u h part p x y n (omega (arith, ints, some)) f ep eo i ex ey
+step_makes u h part p (negsuc n) x y some f ep eo i ex ey = absurd (omega (arith, ints, some))
 
 -- ---- the divisor
 twice_held : (r : ℤ) (k : ℕ) → r ≡ pos k → k < 2 ^ 30 → held (pos 2 *ℤ held r) ≡ pos (2 * k)
