@@ -4,6 +4,7 @@ use Rattle.std.proofs.lemmas.Int.{ints, clamps}
 use lib.Signed.{≤ℤ_refl}
 use Rattle.std.proofs.Math.Nat.{mul-le-mul_left}
 use Rattle.std.specs.Int.{int_min, int_max}
+use Rattle.rb_frac.specs.Positive.{times_pos as times_positive}
 use Rattle.rb_num.specs.Interval.{Interval, IsInterval, grid, limit, interval, IsWithin, negative_of}
 use Rattle.rb_num.specs.Dot.{floor_of, ceil_of}
 use Rattle.rb_num.specs.Quotient.{HasZero, floor_quotient, ceil_quotient, least_of, greatest_of, quotient_of, quotients_of, QuotientFits}
@@ -135,16 +136,6 @@ quotients_made x y c d r q hx hy nc nd er eq =
     (least_and_greatest _ _ _ _ _ _ _ _ _ (quotient_within x c hx nc) (quotient_within x d hx nd) (quotient_within y c hy nc) (quotient_within y d hy nd))
     er eq
 
-pub quotient_is_interval : (a b : Interval) → b.lo ≤ℤ b.hi → QuotientFits a b → IsInterval (quotient_of a b).lo (quotient_of a b).hi
-unfolding quotient_of quotients_of
-quotient_is_interval a b h f =
-    let n = ends_nonzero b h f.nonzero in
-    least_and_greatest _ _ _ _ _ _ _ _ _
-    (quotient_within _ b.lo f.low n.low) (quotient_within _ b.hi f.low n.high) (quotient_within _ b.lo f.high n.low) (quotient_within _ b.hi f.high n.high)
-
-positive_product : (m n : ℕ) → 0 < m → 0 < n → 0 < m * n
-positive_product m n p q = omega (arith, mul-le-mul_left m q)
-
 -- an end below a floor, multiplied out
 below_floor : (Q z : ℤ) (y : ℕ) → 0 < y → Q ≤ℤ floor_of z y → (Q *ℤ pos y) ≤ℤ z
 below_floor Q z y p h = let a = times_pos Q (floor_of z y) y h in let b = floor-low z y p in omega (arith, ints)
@@ -183,7 +174,7 @@ first_positive zero y2 n = absurd (n (record { low = omega (arith, ints); high =
 first_positive (suc y1) y2 n = omega arith
 
 second_positive : (y1 y2 e k : ℕ) → 0 < y1 → 0 < e → y1 * e ≤ k → k ≤ y2 * e → 0 < y2
-second_positive y1 zero e k p q a b = absurd (omega (arith, positive_product y1 e p q))
+second_positive y1 zero e k p q a b = absurd (omega (arith, times_positive y1 e p q))
 second_positive y1 (suc y2) e k p q a b = omega arith
 
 -- n / d by m / e, where m is positive, and where it is negative

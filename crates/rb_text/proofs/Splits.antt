@@ -50,9 +50,6 @@ splits (byte ∷ bytes) =
       | false ↦ λ e. later byte bytes (split_of bytes) e (splits bytes)
     ] refl
 
-pub split_none : (text : List ℕ) → split_of text ≡ None → (head tail : List ℕ) → text ≡ head ++ (46 ∷ (46 ∷ tail)) → ⊥
-split_none text e = subst (Splits text) e (splits text)
-
 pub split_some : (text : List ℕ) (h : Halves) → split_of text ≡ Some h → IsSplit text h.first h.second
 split_some text h e = subst (Splits text) e (splits text)
 
