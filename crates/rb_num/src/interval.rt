@@ -1,4 +1,5 @@
 ghost use Rattle.std.specs.Prelude.{◌≡◌, ℤ, pos, ◌≤ℤ◌, ◌*ℤ◌, ◌≤◌, ◌↔◌, IsTrue, IfOk, IfErr, IfSome, OkIff, SomeIff, ◌≢◌, length, Result, Err};
+ghost use Rattle.rb_num.specs.declared.interval.TheConstants.{MAX_PAIRS};
 ghost use Rattle.rb_num.specs.Interval.{Interval, IsInterval, IsWithin, EndsFit, grid, interval, sum_of, difference_of, negative_of};
 ghost use Rattle.std.specs.Int.{int_min, int_max};
 ghost use Rattle.rb_num.specs.Divisor.{IsDivisor};
@@ -27,6 +28,10 @@ const SCALABLE: i128 = B / S;
 // An interval is narrow where its ends are at most 2^60 units in size: a product of two such ends is
 // never larger than `B`.
 const NARROW: i128 = 1 << 60;
+
+/// The greatest number of pairs of a sum of products: so many products of size `B` are summed without
+/// loss.
+pub const MAX_PAIRS: usize = 64;
 
 /// Why an operation on intervals is refused.
 #[derive(Clone, Copy, Debug, PartialEq, Eq)]
@@ -174,7 +179,7 @@ fn quotients(low: i128, high: i128, by_low: i128, by_high: i128) -> Iv
 // and nothing is divided.
 #[inline(always)]
 fn narrow_dot(pairs: &[(Iv, Iv)]) -> Option<Iv>
-    requires { length pairs.now ≤ 64 }
+    requires { length pairs.now ≤ MAX_PAIRS }
     ensures { IfSome result (λ v. DotFits pairs.now × (v ≡ dot_of pairs.now)) }
 {
     let mut low: i128 = 0;
@@ -195,7 +200,7 @@ fn narrow_dot(pairs: &[(Iv, Iv)]) -> Option<Iv>
 #[cold]
 #[inline(never)]
 fn wide_dot(pairs: &[(Iv, Iv)]) -> Result<Iv, NumFault>
-    requires { length pairs.now ≤ 64 }
+    requires { length pairs.now ≤ MAX_PAIRS }
     ensures value { OkIff result (DotFits pairs.now) (dot_of pairs.now) }
     ensures fault { IfErr result (λ e. e ≡ NumFault.Size) }
 {
@@ -212,14 +217,14 @@ fn wide_dot(pairs: &[(Iv, Iv)]) -> Result<Iv, NumFault>
     })
 }
 
-/// The sum of the products of the pairs, of which there are at most 64.
+/// The sum of the products of the pairs, of which there are at most `MAX_PAIRS`.
 ///
 /// With `L` the sum of each pair's least product of ends, and `H` that of the greatest, it is the
 /// least interval with `lo * S <= L` and `hi * S >= H`: only the two sums are rounded. It is refused with `Size` exactly where a product of an end of a pair's first interval
 /// and an end of its second is larger in size than `B`, and never with `Zero`.
 #[inline(always)]
 pub fn dot(pairs: &[(Iv, Iv)]) -> Result<Iv, NumFault>
-    requires { length pairs.now ≤ 64 }
+    requires { length pairs.now ≤ MAX_PAIRS }
     ensures exact { result ≡ iv_dot pairs.now }
     ensures value { OkIff result (DotFits pairs.now) (dot_of pairs.now) }
     ensures least { IfOk result (IsLeast (HasSums pairs.now)) }

@@ -11,5 +11,5 @@ pub mod laws;
 mod narrow;
 mod rounding;
 
-pub use interval::{B, Iv, NumFault, S, dot};
+pub use interval::{B, Iv, MAX_PAIRS, NumFault, S, dot};
 pub use laws::{cut_law, dot_without_zero_law, lies_in_law, meet_law, sine_law, zero_law};

@@ -79,7 +79,7 @@ has-draft links joints element joint h = record {
     place = h.place;
     type_is = h.type_is;
     ends = record { parent = h.parent; child_link = h.child_link };
-    pose = h.pose;
+    origin = h.origin;
     axis = h.axis;
     follow = follow-said joints (child (codes "mimic") element) joint.mimic h.mimic;
     leads = refl;

@@ -17,11 +17,11 @@ use Rattle.rb_urdf.specs.declared.joint.Follow.{Follow}
 use Rattle.rb_urdf.specs.declared.joint.Draft.{Draft}
 use Rattle.rb_urdf.specs.Robot.{plane_axis, names_of_links}
 use Rattle.rb_tags.specs.Elements.{Element, child, attribute, attribute_in}
-use Rattle.rb_urdf.specs.Numbers.{zeros, first_axis, number_or, pose_of}
+use Rattle.rb_urdf.specs.Numbers.{zeros, first_axis, number_or, origin_of}
 use Rattle.rb_urdf.specs.Names.{name_after}
 use Rattle.rb_urdf.specs.Joints.{kind_named, kind_of, end_of, ends_of, axis_of, follow_in, follow_of, is_planar, is_exactly, is_plane_axis, unmoved, draft_of, names_of_drafts, drafts_after}
-use Rattle.rb_urdf.specs.Profile.{SaysNumber, SaysPose, HasName, NamesLink, SaysAxis, type_name}
-use Rattle.rb_urdf.proofs.NumberLaws.{number_or-says, number_or-read, three_or-says, three_or-read, pose-says, pose-read}
+use Rattle.rb_urdf.specs.Profile.{SaysNumber, SaysOrigin, HasName, NamesLink, SaysAxis, type_name}
+use Rattle.rb_urdf.proofs.NumberLaws.{number_or-says, number_or-read, three_or-says, three_or-read, origin-says, origin-read}
 use Rattle.rb_urdf.proofs.NameLaws.{name_after-says, name_after-read, differ-new, number-says, number-read}
 use Rattle.rb_tags.specs.Names.{number_of_name, AreDifferent}
 use Rattle.std.specs.Option.{ok_or}
@@ -191,7 +191,7 @@ pub record IsDraft (links : List UrdfLink) (element : Element) (draft : Draft) :
   pub place : draft.joint.place ≡ element.tag.place
   pub type_is : attribute (codes "type") element ≡ Some (type_name draft.joint.kind)
   pub ends : EndsSaid links element (record { parent = draft.joint.parent; child = draft.joint.child })
-  pub pose : SaysPose (child (codes "origin") element) draft.joint.xyz draft.joint.rpy
+  pub origin : SaysOrigin (child (codes "origin") element) draft.joint.xyz draft.joint.rpy
   pub axis : SaysAxis draft.joint.kind (child (codes "axis") element) draft.joint.axis
   pub follow : SaysFollow (child (codes "mimic") element) draft.follow
   pub leads : draft.joint.mimic ≡ None
@@ -202,7 +202,7 @@ draft-says links names element draft h =
     let a = then-ok (name_after names element) _ draft h in
     let b = then-ok (kind_of element) _ draft a.2 in
     let c = then-ok (ends_of (names_of_links links) element) _ draft b.2 in
-    let d = then-ok (pose_of (child (codes "origin") element)) _ draft c.2 in
+    let d = then-ok (origin_of (child (codes "origin") element)) _ draft c.2 in
     let e = then-ok (axis_of b.0 element) _ draft d.2 in
     let f = then-ok (follow_of (child (codes "mimic") element)) _ draft e.2 in
     let u = unless-ok (is_planar b.0 && not (is_plane_axis e.0)) PlanarAxis (Ok (record { joint = unmoved a.0 element.tag.place b.0 c.0 d.0 e.0; follow = f.0 })) draft f.2 in
@@ -215,7 +215,7 @@ draft-says links names element draft h =
         place = refl;
         type_is = kind-says element b.0 b.1;
         ends = ends-say links element c.0 c.1;
-        pose = pose-says (child (codes "origin") element) d.0 d.1;
+        origin = origin-says (child (codes "origin") element) d.0 d.1;
         axis = axis-says b.0 element e.0 e.1 u.0;
         follow = follow-says (child (codes "mimic") element) f.0 f.1;
         leads = refl;
@@ -281,7 +281,7 @@ draft-read links names element draft differ s new =
       name_after-read names element j.name s.name new,
       kind-read element j.kind s.type_is,
       ends-read links element (record { parent = j.parent; child = j.child }) differ s.ends,
-      pose-read (child (codes "origin") element) j.xyz j.rpy s.pose,
+      origin-read (child (codes "origin") element) j.xyz j.rpy s.origin,
       axis.0,
       follow-read (child (codes "mimic") element) draft.follow s.follow,
       axis.1,

@@ -10,11 +10,11 @@ use Rattle.rb_urdf.specs.declared.faults.UrdfFaultKind.{UrdfFaultKind}
 use Rattle.rb_urdf.specs.declared.faults.UrdfFaultKind.TheVariants.{NegativeMass}
 use Rattle.rb_urdf.specs.declared.link.Inertial.{Inertial}
 use Rattle.rb_tags.specs.Elements.{Element, child, child_in}
-use Rattle.rb_urdf.specs.Numbers.{number_or, pose_of}
+use Rattle.rb_urdf.specs.Numbers.{number_or, origin_of}
 use Rattle.rb_urdf.specs.Names.{name_after}
 use Rattle.rb_urdf.specs.Links.{six_of, inertial_of, link_with, link_of, links_after}
 use Rattle.rb_urdf.specs.Profile.{SaysSix, IsInertial, IsLink}
-use Rattle.rb_urdf.proofs.NumberLaws.{number_or-says, number_or-read, pose-says, pose-read}
+use Rattle.rb_urdf.proofs.NumberLaws.{number_or-says, number_or-read, origin-says, origin-read}
 use Rattle.rb_urdf.proofs.NameLaws.{name_after-says, name_after-read, differ-new}
 use Rattle.rb_result.proofs.Results.{then-ok, unless-ok, placed-ok}
 use Rattle.rb_result.specs.Steps.{placed}
@@ -72,26 +72,26 @@ six-read inertia six s =
 inertial-says : (element : Option Element) (i : Inertial) (name : List ℕ) (place : ℕ) → inertial_of element ≡ Ok i → IsInertial element (link_with name place i)
 unfolding inertial_of
 inertial-says element i name place h =
-    let a = then-ok (pose_of (child_in (codes "origin") element)) _ i h in
+    let a = then-ok (origin_of (child_in (codes "origin") element)) _ i h in
     let b = then-ok (number_or zero_interval (codes "value") (child_in (codes "mass") element)) _ i a.2 in
     let c = then-ok (six_of (child_in (codes "inertia") element)) _ i b.2 in
     let d = unless-ok (int_lt b.0.lo (pos 0)) NegativeMass _ i c.2 in
-    let pose : a.0 ≡ i.pose = cc in
+    let origin : a.0 ≡ i.origin = cc in
     let mass : b.0 ≡ i.mass = cc in
     let six : c.0 ≡ i.six = cc in
     record {
-      pose = pose-says (child_in (codes "origin") element) i.pose (a.1 ∙ ap Ok pose);
+      origin = origin-says (child_in (codes "origin") element) i.origin (a.1 ∙ ap Ok origin);
       mass = number_or-says zero_interval (codes "value") (child_in (codes "mass") element) i.mass (b.1 ∙ ap Ok mass);
       not_negative = subst (λ (v : Interval). pos 0 ≤ℤ v.lo) mass (not_below b.0.lo d.0);
       six = six-says (child_in (codes "inertia") element) i.six (c.1 ∙ ap Ok six);
     }
 
-inertial-read : (element : Option Element) (link : UrdfLink) → IsInertial element link → inertial_of element ≡ Ok (record { mass = link.mass; pose = record { xyz = link.«com»; rpy = link.rpy }; six = link.six })
+inertial-read : (element : Option Element) (link : UrdfLink) → IsInertial element link → inertial_of element ≡ Ok (record { mass = link.mass; origin = record { xyz = link.«com»; rpy = link.rpy }; six = link.six })
 unfolding inertial_of
 inertial-read element link s =
     let light : int_lt link.mass.lo (pos 0) ≡ false = at_least link.mass.lo s.not_negative in
     rw (
-      pose-read (child_in (codes "origin") element) link.«com» link.rpy s.pose,
+      origin-read (child_in (codes "origin") element) link.«com» link.rpy s.origin,
       number_or-read zero_interval (codes "value") (child_in (codes "mass") element) link.mass s.mass,
       six-read (child_in (codes "inertia") element) link.six s.six,
       light,

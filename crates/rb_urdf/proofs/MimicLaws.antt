@@ -187,7 +187,7 @@ module _ (links : List UrdfLink) (elements : List Element) (drafts : List Draft)
     kind = kind-alone base.kind ∙ ap (kind_of_type base.kind) (sym d.leads);
     parent = d.ends.parent;
     child_link = d.ends.child_link;
-    pose = d.pose;
+    origin = d.origin;
     axis = d.axis;
     mimic = subst (SaysMimic joints (child (codes "mimic") element)) (sym d.leads) (mimic-none joints (child (codes "mimic") element) d.follow);
     follows = subst (FollowsWell joints base.kind) (sym d.leads) tt;
@@ -204,7 +204,7 @@ module _ (links : List UrdfLink) (elements : List Element) (drafts : List Draft)
         kind = kind-following base.kind p.0;
         parent = d.ends.parent;
         child_link = d.ends.child_link;
-        pose = d.pose;
+        origin = d.origin;
         axis = d.axis;
         mimic = mimic-says read settled (child (codes "mimic") element) follow base.kind p.0 d.follow f;
         follows = (leading (following_kind base.kind) f.follows, master-of read settled p.0.master f.head f.is f.leads f.leading);

@@ -4,10 +4,10 @@ use Rattle.std.specs.Prelude.{codes}
 use Rattle.rb_num.specs.Interval.{Interval}
 use Rattle.rb_text.specs.Bracket.{bracket_of}
 use Rattle.rb_urdf.specs.declared.faults.UrdfFaultKind.{UrdfFaultKind}
-use Rattle.rb_urdf.specs.declared.numbers.Pose.{Pose}
+use Rattle.rb_urdf.specs.declared.numbers.Origin.{Origin}
 use Rattle.rb_tags.specs.Elements.{Element, attribute_in}
-use Rattle.rb_urdf.specs.Numbers.{number_in, three_in, said_or, number_or, three_or, pose_of, zeros, as_bad_number}
-use Rattle.rb_urdf.specs.Profile.{SaidOr, IsNumber, SaysNumber, SaysThree, SaysPose}
+use Rattle.rb_urdf.specs.Numbers.{number_in, three_in, said_or, number_or, three_or, origin_of, zeros, as_bad_number}
+use Rattle.rb_urdf.specs.Profile.{SaidOr, IsNumber, SaysNumber, SaysThree, SaysOrigin}
 use Rattle.rb_text.specs.Three.{IsThree, three_of}
 use Rattle.rb_result.proofs.Results.{then-ok, told-ok}
 use Rattle.rb_text.proofs.Threes.{three_says, three_read}
@@ -52,19 +52,19 @@ pub three_or-read : (default : List Interval) (key : List ℕ) (element : Option
 unfolding three_or
 three_or-read default key element v h = said-read default three_in IsThree three-read (attribute_in key element) v h
 
-pub pose-says : (origin : Option Element) (pose : Pose) → pose_of origin ≡ Ok pose → SaysPose origin pose.xyz pose.rpy
-unfolding pose_of
-pose-says origin pose h =
-    let p = then-ok (three_or zeros (codes "xyz") origin) _ pose h in
-    let q = then-ok (three_or zeros (codes "rpy") origin) _ pose p.2 in
-    let xyz : pose.xyz ≡ p.0 = cc in
-    let rpy : pose.rpy ≡ q.0 = cc in
+pub origin-says : (element : Option Element) (origin : Origin) → origin_of element ≡ Ok origin → SaysOrigin element origin.xyz origin.rpy
+unfolding origin_of
+origin-says element origin h =
+    let p = then-ok (three_or zeros (codes "xyz") element) _ origin h in
+    let q = then-ok (three_or zeros (codes "rpy") element) _ origin p.2 in
+    let xyz : origin.xyz ≡ p.0 = cc in
+    let rpy : origin.rpy ≡ q.0 = cc in
     record {
-      place = three_or-says zeros (codes "xyz") origin pose.xyz (p.1 ∙ ap Ok (sym xyz));
-      turn = three_or-says zeros (codes "rpy") origin pose.rpy (q.1 ∙ ap Ok (sym rpy));
+      place = three_or-says zeros (codes "xyz") element origin.xyz (p.1 ∙ ap Ok (sym xyz));
+      turn = three_or-says zeros (codes "rpy") element origin.rpy (q.1 ∙ ap Ok (sym rpy));
     }
 
-pub pose-read : (origin : Option Element) (xyz rpy : List Interval) → SaysPose origin xyz rpy → pose_of origin ≡ Ok (record { xyz = xyz; rpy = rpy })
-unfolding pose_of
-pose-read origin xyz rpy s =
+pub origin-read : (origin : Option Element) (xyz rpy : List Interval) → SaysOrigin origin xyz rpy → origin_of origin ≡ Ok (record { xyz = xyz; rpy = rpy })
+unfolding origin_of
+origin-read origin xyz rpy s =
     rw (three_or-read zeros (codes "xyz") origin xyz s.place, three_or-read zeros (codes "rpy") origin rpy s.turn) refl

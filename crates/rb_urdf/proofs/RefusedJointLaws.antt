@@ -18,7 +18,7 @@ use Rattle.rb_urdf.specs.declared.joint.Draft.{Draft}
 use Rattle.rb_urdf.specs.declared.mimic.Head.{Head}
 use Rattle.rb_urdf.specs.Robot.{plane_axis, names_of_links}
 use Rattle.rb_tags.specs.Elements.{Element, child}
-use Rattle.rb_urdf.specs.Numbers.{first_axis, number_or, pose_of}
+use Rattle.rb_urdf.specs.Numbers.{first_axis, number_or, origin_of}
 use Rattle.rb_urdf.specs.Names.{name_after}
 use Rattle.rb_urdf.specs.Joints.{kind_of, end_of, ends_of, axis_of, follow_in, follow_of, is_planar, is_plane_axis, unmoved, draft_of, names_of_drafts}
 use Rattle.rb_urdf.specs.Mimics.{may_lead, following_kind, head_of, mimic_of, joint_with, joint_of, joints_after}
@@ -27,7 +27,7 @@ use Rattle.rb_urdf.specs.Refusals.{SaysNone, LacksName, HasNameAgain, HasType, L
 use Rattle.rb_urdf.proofs.NumberLaws.{three_or-says}
 use Rattle.rb_urdf.proofs.NameLaws.{number-says}
 use Rattle.rb_urdf.proofs.DraftLaws.{IsDraft, IsFollow, SaysFollow, kind-says, kind-read, plane_axis-exact}
-use Rattle.rb_urdf.proofs.RefusedLaws.{number-refused, three-refused, pose-refused, name_after-refused}
+use Rattle.rb_urdf.proofs.RefusedLaws.{number-refused, three-refused, origin-refused, name_after-refused}
 use Rattle.rb_urdf.proofs.Zips.{beside_left, slice_get-of_map, slice_get-to_map}
 use Rattle.rb_tags.specs.Names.{number_of_name}
 use Rattle.std.specs.Option.{ok_or}
@@ -166,8 +166,8 @@ module _ (elements : List Element) (links : List UrdfLink) (are_links : AllZip I
           | inl e ↦ let r = kind-refused joint k e in subst (JointFault elements before joint) r.0 r.1
           | inr b ↦ elim (then-err (ends_of (names_of_links links) joint) _ k b.2) [
             | inl e ↦ ends-refused k e
-            | inr c ↦ elim (then-err (pose_of (child (codes "origin") joint)) _ k c.2) [
-              | inl e ↦ let r = pose-refused (child (codes "origin") joint) k e in subst (JointFault elements before joint) r.0 (inl r.1)
+            | inr c ↦ elim (then-err (origin_of (child (codes "origin") joint)) _ k c.2) [
+              | inl e ↦ let r = origin-refused (child (codes "origin") joint) k e in subst (JointFault elements before joint) r.0 (inl r.1)
               | inr d ↦ elim (then-err (axis_of b.0 joint) _ k d.2) [
                 | inl e ↦ let r = axis-refused b.0 k e in subst (JointFault elements before joint) r.0 (inr (inl (record { type = b.0; type_is = kind-says joint b.0 b.1; bad = r.1 })))
                 | inr x ↦ elim (then-err (follow_of (child (codes "mimic") joint)) _ k x.2) [

@@ -10,11 +10,11 @@ use Rattle.rb_urdf.specs.declared.robot.UrdfLink.{UrdfLink}
 use Rattle.rb_urdf.specs.declared.faults.UrdfFaultKind.{UrdfFaultKind}
 use Rattle.rb_urdf.specs.declared.faults.UrdfFaultKind.TheVariants.{NoName, NameTwice, BadNumber, NegativeMass}
 use Rattle.rb_tags.specs.Elements.{Element, child, child_in, attribute_in, given}
-use Rattle.rb_urdf.specs.Numbers.{zeros, number_in, three_in, said_or, number_or, three_or, pose_of, as_bad_number}
+use Rattle.rb_urdf.specs.Numbers.{zeros, number_in, three_in, said_or, number_or, three_or, origin_of, as_bad_number}
 use Rattle.rb_urdf.specs.Names.{new_name, name_of, name_after}
 use Rattle.rb_urdf.specs.Links.{six_of, inertial_of, link_of}
 use Rattle.rb_urdf.specs.Profile.{SaysNumber, SaysThree, SaysSix, HasName, IsLink}
-use Rattle.rb_urdf.specs.Refusals.{SaysNone, LacksName, HasNameAgain, HasBadPose, LinkHasBadNumber, HasNegativeMass}
+use Rattle.rb_urdf.specs.Refusals.{SaysNone, LacksName, HasNameAgain, HasBadOrigin, LinkHasBadNumber, HasNegativeMass}
 use Rattle.rb_urdf.proofs.NumberLaws.{number_or-says, number_or-read, three_or-read}
 use Rattle.rb_urdf.proofs.NameLaws.{name-says, name-read}
 use Rattle.rb_urdf.proofs.LinkLaws.{six-read}
@@ -51,9 +51,9 @@ three-refused default key element k h = (
   λ v s. not-both (three_or default key element) v k (three_or-read default key element v s) h,
 )
 
-pub pose-refused : (origin : Option Element) (k : UrdfFaultKind) → pose_of origin ≡ Err k → (BadNumber ≡ k) × HasBadPose origin
-unfolding pose_of
-pose-refused origin k h =
+pub origin-refused : (origin : Option Element) (k : UrdfFaultKind) → origin_of origin ≡ Err k → (BadNumber ≡ k) × HasBadOrigin origin
+unfolding origin_of
+origin-refused origin k h =
     elim (then-err (three_or zeros (codes "xyz") origin) _ k h) [
       | inl e ↦ let r = three-refused zeros (codes "xyz") origin k e in (r.0, inl r.1)
       | inr p ↦ elim (then-err (three_or zeros (codes "rpy") origin) _ k p.2) [
@@ -149,8 +149,8 @@ inertial-refused : (before : List Element) (link : Element) (k : UrdfFaultKind) 
 unfolding inertial_of
 inertial-refused before link k h =
     let inertial = child (codes "inertial") link in
-    elim (then-err (pose_of (child_in (codes "origin") inertial)) _ k h) [
-      | inl e ↦ let r = pose-refused (child_in (codes "origin") inertial) k e in subst (LinkFault before link) r.0 (inl r.1)
+    elim (then-err (origin_of (child_in (codes "origin") inertial)) _ k h) [
+      | inl e ↦ let r = origin-refused (child_in (codes "origin") inertial) k e in subst (LinkFault before link) r.0 (inl r.1)
       | inr a ↦ elim (then-err (number_or zero_interval (codes "value") (child_in (codes "mass") inertial)) _ k a.2) [
         | inl e ↦ let r = number-refused zero_interval (codes "value") (child_in (codes "mass") inertial) k e in subst (LinkFault before link) r.0 (inr (inl r.1))
         | inr b ↦ elim (then-err (six_of (child_in (codes "inertia") inertial)) _ k b.2) [

@@ -8,13 +8,13 @@ use Rattle.rb_urdf.specs.declared.robot.UrdfJoint.{UrdfJoint}
 use Rattle.rb_urdf.specs.declared.faults.UrdfFault.{UrdfFault}
 use Rattle.rb_urdf.specs.declared.faults.UrdfFaultKind.{UrdfFaultKind}
 use Rattle.rb_urdf.specs.declared.faults.UrdfFaultKind.TheVariants.{BadType, NoParent, NoChild, UnknownLink, PlanarAxis}
-use Rattle.rb_urdf.specs.declared.numbers.Pose.{Pose}
+use Rattle.rb_urdf.specs.declared.numbers.Origin.{Origin}
 use Rattle.rb_urdf.specs.declared.joint.Ends.{Ends}
 use Rattle.rb_urdf.specs.declared.joint.Follow.{Follow}
 use Rattle.rb_urdf.specs.declared.joint.Draft.{Draft}
 use Rattle.rb_urdf.specs.Robot.{plane_axis}
 use Rattle.rb_tags.specs.Elements.{Element, child, attribute, attribute_in}
-use Rattle.rb_urdf.specs.Numbers.{zeros, first_axis, number_or, three_or, pose_of}
+use Rattle.rb_urdf.specs.Numbers.{zeros, first_axis, number_or, three_or, origin_of}
 use Rattle.rb_urdf.specs.Names.{name_after}
 use Rattle.rb_tags.specs.Names.{number_of_name}
 use Rattle.rb_result.specs.Steps.{◌>>=◌, placed}
@@ -81,9 +81,9 @@ is_plane_axis (x ∷ y ∷ z ∷ []) = is_exactly (pos 0) x && is_exactly (pos 0
 is_plane_axis _ = false
 
 -- a joint that follows none
-abbrev pub unmoved : List ℕ → ℕ → UrdfKind → Ends → Pose → List Interval → UrdfJoint
-unmoved name place kind ends pose axis =
-    record { name = name; place = place; kind = kind; parent = ends.parent; child = ends.child; xyz = pose.xyz; rpy = pose.rpy; axis = axis; mimic = None }
+abbrev pub unmoved : List ℕ → ℕ → UrdfKind → Ends → Origin → List Interval → UrdfJoint
+unmoved name place kind ends origin axis =
+    record { name = name; place = place; kind = kind; parent = ends.parent; child = ends.child; xyz = origin.xyz; rpy = origin.rpy; axis = axis; mimic = None }
 
 -- the joint of an element behind joints of these names, in a robot with links of those
 unfoldable pub draft_of : List (List ℕ) → List (List ℕ) → Element → Result Draft UrdfFaultKind
@@ -91,11 +91,11 @@ draft_of links names element =
     name_after names element >>= λ name.
     kind_of element >>= λ kind.
     ends_of links element >>= λ ends.
-    pose_of (child (codes "origin") element) >>= λ pose.
+    origin_of (child (codes "origin") element) >>= λ origin.
     axis_of kind element >>= λ axis.
     follow_of (child (codes "mimic") element) >>= λ follow.
     if is_planar kind && not (is_plane_axis axis) then Err PlanarAxis else
-    Ok (record { joint = unmoved name element.tag.place kind ends pose axis; follow = follow })
+    Ok (record { joint = unmoved name element.tag.place kind ends origin axis; follow = follow })
 
 abbrev pub names_of_drafts : List Draft → List (List ℕ)
 names_of_drafts drafts = map (λ draft. draft.joint.name) drafts

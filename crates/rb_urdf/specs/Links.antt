@@ -7,7 +7,7 @@ use Rattle.rb_urdf.specs.declared.faults.UrdfFaultKind.{UrdfFaultKind}
 use Rattle.rb_urdf.specs.declared.faults.UrdfFaultKind.TheVariants.{NegativeMass}
 use Rattle.rb_urdf.specs.declared.link.Inertial.{Inertial}
 use Rattle.rb_tags.specs.Elements.{Element, child, child_in}
-use Rattle.rb_urdf.specs.Numbers.{number_or, pose_of}
+use Rattle.rb_urdf.specs.Numbers.{number_or, origin_of}
 use Rattle.rb_urdf.specs.Names.{name_after}
 use Rattle.rb_result.specs.Steps.{◌>>=◌, placed}
 use Rattle.rb_urdf.specs.Faults.{fault_at}
@@ -27,14 +27,14 @@ six_of inertia =
 -- what the element `inertial` says
 unfoldable pub inertial_of : Option Element → Result Inertial UrdfFaultKind
 inertial_of inertial =
-    pose_of (child_in (codes "origin") inertial) >>= λ pose.
+    origin_of (child_in (codes "origin") inertial) >>= λ origin.
     number_or zero_interval (codes "value") (child_in (codes "mass") inertial) >>= λ mass.
     six_of (child_in (codes "inertia") inertial) >>= λ six.
-    if int_lt mass.lo (pos 0) then Err NegativeMass else Ok (record { mass = mass; pose = pose; six = six })
+    if int_lt mass.lo (pos 0) then Err NegativeMass else Ok (record { mass = mass; origin = origin; six = six })
 
 abbrev pub link_with : List ℕ → ℕ → Inertial → UrdfLink
 link_with name place i =
-    record { name = name; place = place; mass = i.mass; «com» = i.pose.xyz; rpy = i.pose.rpy; six = i.six }
+    record { name = name; place = place; mass = i.mass; «com» = i.origin.xyz; rpy = i.origin.rpy; six = i.six }
 
 -- the link of an element behind links of these names
 unfoldable pub link_of : List (List ℕ) → Element → Result UrdfLink UrdfFaultKind

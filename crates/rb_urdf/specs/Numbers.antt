@@ -5,7 +5,7 @@ use Rattle.rb_text.specs.Bracket.{bracket_of}
 use Rattle.rb_text.specs.declared.bracket.TextFault.{TextFault}
 use Rattle.rb_urdf.specs.declared.faults.UrdfFaultKind.{UrdfFaultKind}
 use Rattle.rb_urdf.specs.declared.faults.UrdfFaultKind.TheVariants.{BadNumber}
-use Rattle.rb_urdf.specs.declared.numbers.Pose.{Pose}
+use Rattle.rb_urdf.specs.declared.numbers.Origin.{Origin}
 use Rattle.rb_tags.specs.Elements.{Element, attribute_in}
 use Rattle.rb_result.specs.Steps.{◌>>=◌, told_as}
 use Rattle.rb_text.specs.Three.{three_of}
@@ -44,8 +44,8 @@ unfoldable pub three_or : List Interval → List ℕ → Option Element → Resu
 three_or default key element = said_or default three_in (attribute_in key element)
 
 -- where an origin is and how it is turned
-unfoldable pub pose_of : Option Element → Result Pose UrdfFaultKind
-pose_of origin =
+unfoldable pub origin_of : Option Element → Result Origin UrdfFaultKind
+origin_of origin =
     three_or zeros (codes "xyz") origin >>= λ xyz.
     three_or zeros (codes "rpy") origin >>= λ rpy.
     Ok (record { xyz = xyz; rpy = rpy })

@@ -31,7 +31,7 @@ abbrev pub SaysThree : List Interval → List ℕ → Option Element → List In
 SaysThree default key element v = SaidOr default IsThree (attribute_in key element) v
 
 -- what the element `origin` says
-pub record SaysPose (origin : Option Element) (xyz rpy : List Interval) : Type 0 where
+pub record SaysOrigin (origin : Option Element) (xyz rpy : List Interval) : Type 0 where
   pub place : SaysThree zeros (codes "xyz") origin xyz
   pub turn : SaysThree zeros (codes "rpy") origin rpy
 
@@ -53,7 +53,7 @@ pub record SaysSix (inertia : Option Element) (six : List Interval) : Type 0 whe
 
 -- what the element `inertial` says of a link
 pub record IsInertial (inertial : Option Element) (link : UrdfLink) : Type 0 where
-  pub pose : SaysPose (child_in (codes "origin") inertial) link.«com» link.rpy
+  pub origin : SaysOrigin (child_in (codes "origin") inertial) link.«com» link.rpy
   pub mass : SaysNumber zero_interval (codes "value") (child_in (codes "mass") inertial) link.mass
   pub not_negative : pos 0 ≤ℤ link.mass.lo
   pub six : SaysSix (child_in (codes "inertia") inertial) link.six
@@ -124,7 +124,7 @@ pub record IsJoint (links : List UrdfLink) (joints : List UrdfJoint) (element : 
   pub kind : joint.kind ≡ kind_of_type type joint.mimic
   pub parent : NamesLink links (child (codes "parent") element) joint.parent
   pub child_link : NamesLink links (child (codes "child") element) joint.child
-  pub pose : SaysPose (child (codes "origin") element) joint.xyz joint.rpy
+  pub origin : SaysOrigin (child (codes "origin") element) joint.xyz joint.rpy
   pub axis : SaysAxis type (child (codes "axis") element) joint.axis
   pub mimic : SaysMimic joints (child (codes "mimic") element) joint.mimic
   pub follows : FollowsWell joints joint.kind joint.mimic

@@ -31,13 +31,13 @@ pub record HasNameAgain (before : List Element) (element : Element) : Type 0 whe
   pub same : HasName earlier name
 
 -- an `origin` has a text that is not three brackets
-abbrev pub HasBadPose : Option Element → Type 0
-HasBadPose origin = SaysNone (SaysThree zeros (codes "xyz") origin) ⊎ SaysNone (SaysThree zeros (codes "rpy") origin)
+abbrev pub HasBadOrigin : Option Element → Type 0
+HasBadOrigin origin = SaysNone (SaysThree zeros (codes "xyz") origin) ⊎ SaysNone (SaysThree zeros (codes "rpy") origin)
 
 -- a link has a text that is no number
 abbrev pub LinkHasBadNumber : Element → Type 0
 LinkHasBadNumber link =
-    HasBadPose (child_in (codes "origin") (child (codes "inertial") link))
+    HasBadOrigin (child_in (codes "origin") (child (codes "inertial") link))
     ⊎ (SaysNone (SaysNumber zero_interval (codes "value") (child_in (codes "mass") (child (codes "inertial") link)))
     ⊎ SaysNone (SaysSix (child_in (codes "inertia") (child (codes "inertial") link))))
 
@@ -77,7 +77,7 @@ pub record HasBadMimic (joint : Element) : Type 0 where
 
 -- a joint has a text that is no number
 abbrev pub JointHasBadNumber : Element → Type 0
-JointHasBadNumber joint = HasBadPose (child (codes "origin") joint) ⊎ (HasBadAxis joint ⊎ HasBadMimic joint)
+JointHasBadNumber joint = HasBadOrigin (child (codes "origin") joint) ⊎ (HasBadAxis joint ⊎ HasBadMimic joint)
 
 -- a planar joint has another axis than 0 0 1
 pub record HasOtherAxis (joint : Element) : Type 0 where

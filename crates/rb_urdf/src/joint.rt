@@ -8,7 +8,7 @@ ghost use Rattle.rb_urdf.specs.Faults.{no_memory};
 
 use crate::faults::{UrdfFault, UrdfFaultKind, fault};
 use crate::names::take_name;
-use crate::numbers::{ZEROS, number_or, pose_of, three_or};
+use crate::numbers::{ZEROS, number_or, origin_of, three_or};
 use crate::robot::{UrdfJoint, UrdfKind};
 use rb_num::{Iv, S};
 use rb_tags::{ElementRef, Names, Tag, Text, attribute_in, is_child};
@@ -186,7 +186,7 @@ fn draft_of<'a>(
     let name = take_name(names, element)?;
     let kind = kind_of(element)?;
     let ends = ends_of(links, element)?;
-    let pose = pose_of(element.child("origin"))?;
+    let origin = origin_of(element.child("origin"))?;
     let axis = axis_of(kind, element)?;
     let follow = follow_of(alloc, element.child("mimic"))?;
     if kind == UrdfKind::Planar && !is_plane_axis(axis) {
@@ -198,8 +198,8 @@ fn draft_of<'a>(
         kind,
         parent: ends.parent,
         child: ends.child,
-        xyz: pose.xyz,
-        rpy: pose.rpy,
+        xyz: origin.xyz,
+        rpy: origin.rpy,
         axis,
         mimic: None,
     };

@@ -9,7 +9,7 @@ ghost use Rattle.rb_urdf.specs.Robot.{names_of_links};
 
 use crate::faults::{UrdfFault, UrdfFaultKind, fault};
 use crate::names::take_name;
-use crate::numbers::{Pose, number_or, pose_of};
+use crate::numbers::{Origin, number_or, origin_of};
 use crate::robot::UrdfLink;
 use rb_num::Iv;
 use rb_tags::{ElementRef, Names, Tag, Text, child_in, is_child};
@@ -20,7 +20,7 @@ use std::alloc::Global;
 #[derive(Clone, Copy)]
 pub struct Inertial {
     pub mass: Iv,
-    pub pose: Pose,
+    pub origin: Origin,
     pub six: [Iv; 6],
 }
 
@@ -43,13 +43,13 @@ fn six_of(inertia: Option<ElementRef<'_>>) -> Result<[Iv; 6], UrdfFaultKind>
 fn inertial_of(inertial: Option<ElementRef<'_>>) -> Result<Inertial, UrdfFaultKind>
     ensures { result ≡ inertial_of (option_map as_element inertial.entry) }
 {
-    let pose = pose_of(child_in("origin", inertial))?;
+    let origin = origin_of(child_in("origin", inertial))?;
     let mass = number_or(Iv::ZERO, "value", child_in("mass", inertial))?;
     let six = six_of(child_in("inertia", inertial))?;
     if mass.lo() < 0 {
         return Err(UrdfFaultKind::NegativeMass);
     }
-    Ok(Inertial { mass, pose, six })
+    Ok(Inertial { mass, origin, six })
 }
 
 /// The link of an element, whose name is put behind those of a set.
@@ -68,8 +68,8 @@ fn link_of<'a>(
         name: Text::copy(alloc, name)?,
         place: element.tag.place,
         mass: inertial.mass,
-        com: inertial.pose.xyz,
-        rpy: inertial.pose.rpy,
+        com: inertial.origin.xyz,
+        rpy: inertial.origin.rpy,
         six: inertial.six,
     })
 }

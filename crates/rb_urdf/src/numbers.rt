@@ -1,6 +1,6 @@
 // The numbers of attributes.
 ghost use Rattle.std.specs.Prelude.{◌≡◌, option_map};
-ghost use Rattle.rb_urdf.specs.Numbers.{number_in, three_in, number_or, three_or, pose_of};
+ghost use Rattle.rb_urdf.specs.Numbers.{number_in, three_in, number_or, three_or, origin_of};
 ghost use Rattle.rb_tags.specs.Elements.{as_element};
 
 use crate::faults::UrdfFaultKind;
@@ -13,7 +13,7 @@ pub const ZEROS: [Iv; 3] = [Iv::ZERO, Iv::ZERO, Iv::ZERO];
 
 /// Where an origin is in metres, and its roll, pitch and yaw in radians.
 #[derive(Clone, Copy)]
-pub struct Pose {
+pub struct Origin {
     pub xyz: [Iv; 3],
     pub rpy: [Iv; 3],
 }
@@ -71,11 +71,11 @@ pub fn three_or(
 }
 
 /// Where an origin is and how it is turned.
-#[tactic(auto, unfolding(crate::specs::Numbers::pose_of))]
-pub fn pose_of(origin: Option<ElementRef<'_>>) -> Result<Pose, UrdfFaultKind>
-    ensures { result ≡ pose_of (option_map as_element origin.entry) }
+#[tactic(auto, unfolding(crate::specs::Numbers::origin_of))]
+pub fn origin_of(origin: Option<ElementRef<'_>>) -> Result<Origin, UrdfFaultKind>
+    ensures { result ≡ origin_of (option_map as_element origin.entry) }
 {
     let xyz = three_or(ZEROS, "xyz", origin)?;
     let rpy = three_or(ZEROS, "rpy", origin)?;
-    Ok(Pose { xyz, rpy })
+    Ok(Origin { xyz, rpy })
 }
