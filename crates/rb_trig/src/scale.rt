@@ -1,6 +1,6 @@
 //! Quotients by the scale of the nested products, by a product with a reciprocal and no division, and by
 //! small numbers.
-ghost use Rattle.std.specs.Prelude.{◌≡◌, ◌*◌, ◌/◌, ◌<◌, ◌≤◌, ◌^◌, pos, neg_ℤ, ◌≤ℤ◌, ◌<ℤ◌, IfSome};
+ghost use Rattle.std.specs.Prelude.{◌≡◌, ◌*◌, ◌-◌, ◌/◌, ◌<◌, ◌≤◌, ◌^◌, pos, neg_ℤ, ◌≤ℤ◌, ◌<ℤ◌, IfSome};
 ghost use Rattle.rb_num.specs.Interval.{interval};
 ghost use Rattle.rb_num.specs.Dot.{floor_of, ceil_of};
 ghost use Rattle.rb_trig.specs.Ends.{outward as outward_of};
@@ -86,6 +86,49 @@ fn short_outward(lo: u64, hi: u64, by: u64) -> Iv
     ensures { result ≡ outward_of (interval (pos lo) (pos hi)) (pos by) }
 {
     Iv::new((lo / by) as i128, quotient_up(hi, by) as i128)
+}
+
+// `x / by`, rounded down, where `reciprocal` is `(2^64 - 1) / by`. The product with it gives the quotient,
+// or one less.
+#[inline]
+#[tactic(auto, using(crate::proofs::Parts::guess_low, crate::proofs::Parts::guess_high))]
+fn small_quotient(x: u64, by: u64, reciprocal: u64) -> u64
+    requires positive { 0 < by }
+    requires reciprocal { reciprocal ≡ (2 ^ 64 - 1) / by }
+    ensures { result ≡ x / by }
+{
+    let guess = ((x as u128 * reciprocal as u128) >> 64) as u64;
+    if x - guess * by < by {
+        guess
+    } else {
+        guess + 1
+    }
+}
+
+// `u * h / (T * by)`, rounded down.
+#[inline]
+pub fn part_down(u: u64, h: u64, by: u64, reciprocal: u64) -> u64
+    requires first { u ≤ 64 * scale }
+    requires second { h ≤ scale }
+    requires positive { 0 < by }
+    requires reciprocal { reciprocal ≡ (2 ^ 64 - 1) / by }
+    ensures { result ≡ u * h / (scale * by) }
+{
+    small_quotient(quotient(u as u128 * h as u128), by, reciprocal)
+}
+
+// `u * h / (T * by)`, rounded up.
+#[inline]
+pub fn part_up(u: u64, h: u64, by: u64, reciprocal: u64) -> u64
+    requires first { u ≤ 64 * scale }
+    requires second { h ≤ scale }
+    requires positive { 0 < by }
+    requires small { by < 2 ^ 62 }
+    requires reciprocal { reciprocal ≡ (2 ^ 64 - 1) / by }
+    ensures { pos result ≡ ceil_of (pos (u * h)) (scale * by) }
+{
+    let up = quotient(u as u128 * h as u128 + (T as u128 - 1));
+    small_quotient(up + (by - 1), by, reciprocal)
 }
 
 // Both ends divided by `by`, the lower rounded down and the upper up: in 64 bits, where they fit and are

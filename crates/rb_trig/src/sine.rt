@@ -3,7 +3,7 @@ ghost use Rattle.rb_num.specs.Dot.{ProductsFit};
 ghost use Rattle.rb_trig.specs.Sine.{divisor as divisor_of, nested as nested_of, step as step_of, square_of, IsSquare, IsAngle, sines, cosines, sin_cos_of, Encloses};
 
 use crate::ends::{clamp, outward, products, squares};
-use crate::scale::{outward_by_scale, outward_by_small};
+use crate::scale::{outward_by_scale, outward_by_small, part_down, part_up};
 use rb_num::{Iv, S};
 
 /// The largest size of an angle, in units: eight radians.
@@ -41,6 +41,33 @@ impl Series {
         }
     }
 
+    // The nested products from the last term down to one, in 64 bits, as long as no end is negative; and
+    // which term that is.
+    fn short_nested(self, square: Iv, terms: u64) -> (u64, Iv)
+        requires square { IsSquare square }
+        requires some { 1 ≤ terms }
+        requires few { terms < 2 ^ 30 }
+        ensures some { 1 ≤ result.0 }
+        ensures few { result.0 ≤ terms }
+        ensures value { result.1 ≡ nested_of self square result.0 (terms - result.0) }
+    {
+        let (low, high) = (square.lo() as u64, square.hi() as u64);
+        let mut lo = T as u64;
+        let mut hi = T as u64;
+        for k in (1..terms).rev() {
+            let divisor = self.divisor(k) as u64;
+            let reciprocal = u64::MAX / divisor;
+            let least = part_down(low, lo, divisor, reciprocal);
+            let greatest = part_up(high, hi, divisor, reciprocal);
+            if (T as u64) < greatest {
+                return (k + 1, Iv::new(lo as i128, hi as i128));
+            }
+            lo = T as u64 - greatest;
+            hi = T as u64 - least;
+        }
+        (1, Iv::new(lo as i128, hi as i128))
+    }
+
     // The sum of this many terms, by nested products; the sine's is without its first factor, the
     // angle. The square of the angle and the result count parts of `T`.
     fn nested(self, square: Iv, terms: u64) -> Iv
@@ -49,8 +76,9 @@ impl Series {
         requires few { terms < 2 ^ 30 }
         ensures { result ≡ nested_of self square 1 (terms - 1) }
     {
-        let mut sum = Iv::new(T, T);
-        for k in (1..terms).rev() {
+        let (last, start) = self.short_nested(square, terms);
+        let mut sum = start;
+        for k in (1..last).rev() {
             sum = step(square, sum, self.divisor(k));
         }
         sum
@@ -87,7 +115,7 @@ fn cosine(square: Iv, terms: u64) -> Iv
     requires few { terms < 2 ^ 30 }
     ensures { result ≡ cosines square terms }
 {
-    outward(Series::Cosine.nested(square, terms), T / S)
+    outward_by_small(Series::Cosine.nested(square, terms), T / S)
 }
 
 // The square of the angle, in parts of `T`.

@@ -1,0 +1,83 @@
+-- The nested products in 64 bits: numbers that are not negative, and at most the scale.
+use Rattle.std.proofs.Common.{◌≡◌, ℕ, zero, suc, ◌-◌, ◌*◌, ◌/◌, ◌^◌, ◌<◌, ◌≤◌, ℤ, pos, negsuc, ◌-ℤ◌, ◌*ℤ◌, ◌≤ℤ◌, refl, sym, ◌∙◌, ap, subst, arith, to_z}
+use mir.Syntax.{w128}
+use lib.IntN.{nat_abs}
+use Rattle.std.proofs.lemmas.Int.{ints}
+use Rattle.std.proofs.lemmas.Nat.{mul-le}
+use Rattle.rb_num.specs.Interval.{Interval, interval, limit}
+use Rattle.rb_num.specs.Dot.{floor_of, ceil_of, least_product, greatest_product}
+use Rattle.rb_num.proofs.Ends.{read}
+use Rattle.rb_num.proofs.Quotients.{floor-le-ceil}
+use Rattle.rb_num.proofs.Signs.{positive_least_above, positive_greatest_above}
+use Rattle.rb_trig.specs.declared.sine.Series.{Series}
+use Rattle.rb_trig.specs.Ends.{outward, products}
+use Rattle.rb_trig.specs.Sine.{scale, divisor, step, nested, IsSquare}
+use Rattle.rb_trig.proofs.Nested.{PartlyNested, nested_start, nested_more, divisor_high}
+use Rattle.rb_trig.proofs.Parts.{short_read}
+use Rattle.rb_trig.proofs.Read.{held, Makes}
+use Rattle.rb_trig.proofs.Sizes.{nested_within}
+
+-- ---- casts
+pub cast : (r : ℤ) (n : ℕ) → r ≡ pos n → n < 2 ^ 126 → nat_abs (held r) ≡ n
+cast r n e h = ap nat_abs (read r (omega (arith, ints, e, h)) e)
+
+pub end_cast : (r y : ℤ) → r ≡ y → pos 0 ≤ℤ y → y ≤ℤ pos limit → pos (nat_abs (held r)) ≡ y
+end_cast r (pos n) e l h = ap pos (cast r n e (omega (arith, ints, h)))
+end_cast r (negsuc n) e l h = absurd (omega (arith, ints, l))
+
+pub divisor_cast : (s : Series) (r : ℤ) (k : ℕ) → k < 2 ^ 30 → r ≡ pos (divisor s k) → nat_abs (held r) ≡ divisor s k
+divisor_cast s r k h e = cast r (divisor s k) e (omega (arith, ints, divisor_high s k r h e, e))
+
+-- ---- the loop
+pub record ShortNested (s : Series) (u : Interval) (n k lo hi : ℕ) : Type 0 where
+  pub partly : PartlyNested s u n k (interval (pos lo) (pos hi))
+  pub high : hi ≤ scale
+
+pub short_start : (s : Series) (u : Interval) (n : ℕ) → 1 ≤ n → ShortNested s u n n scale scale
+short_start s u n h = record { partly = nested_start s u (interval (pos scale) (pos scale)) n h refl; high = omega arith }
+
+pub short_ordered : (s : Series) (u : Interval) (n k lo hi : ℕ) → IsSquare u → ShortNested s u n k lo hi → lo ≤ hi
+short_ordered s u n k lo hi h i =
+    let o : pos lo ≤ℤ pos hi = subst (λ (v : Interval). v.lo ≤ℤ v.hi) (sym i.partly.value) (nested_within s u (n - k) k h i.partly.some).ordered in
+    omega (arith, ints, o)
+
+pub short_ends : (s : Series) (u : Interval) (n k lo hi : ℕ) → IsSquare u → ShortNested s u n k lo hi → Makes (nested s u k (n - k)) (to_z w128 lo) (to_z w128 hi)
+short_ends s u n k lo hi h i =
+    let o = short_ordered s u n k lo hi h i in
+    short_read (nested s u k (n - k)) lo hi
+    (record { whole = record { ordered = omega (arith, ints, o); low = omega (arith, ints); high = omega (arith, ints, i.high) }; value = i.partly.value })
+
+pub short_below : (a b lo hi d x y : ℕ) → a ≤ b → lo ≤ hi → 0 < d → x ≡ a * lo / (scale * d) → pos y ≡ ceil_of (pos (b * hi)) (scale * d) → x ≤ y
+short_below a b lo hi d x y h k p ex ey =
+    let m : a * lo ≤ b * hi = mul-le a lo b hi h k in
+    let f : pos (a * lo / (scale * d)) ≤ℤ ceil_of (pos (b * hi)) (scale * d) = floor-le-ceil (pos (a * lo)) (pos (b * hi)) (scale * d) (omega (arith, p)) (omega (arith, ints, m)) in
+    omega (arith, ints, f, ex, ey)
+
+short_step : (u : Interval) (a b d lo hi x y : ℕ) → IsSquare u → pos a ≡ u.lo → pos b ≡ u.hi → lo ≤ hi → x ≤ y → y ≤ scale
+    → x ≡ a * lo / (scale * d) → pos y ≡ ceil_of (pos (b * hi)) (scale * d) → interval (pos (scale - y)) (pos (scale - x)) ≡ step u (interval (pos lo) (pos hi)) (pos d)
+unfolding step outward products
+short_step u a b d lo hi x y h ea eb o k l ex ey =
+    ap (λ (z : ℤ). interval z (pos (scale - x))) (less y l ∙ ap (λ (z : ℤ). pos scale -ℤ z) high)
+    ∙ ap (λ (z : ℤ). interval (pos scale -ℤ ceil_of (greatest_product (u, interval (pos lo) (pos hi))) (scale * d)) z) (less x (omega (arith, k, l)) ∙ ap (λ (z : ℤ). pos scale -ℤ z) low)
+  where
+    less : (m : ℕ) → m ≤ scale → pos (scale - m) ≡ pos scale -ℤ pos m
+    less m e = omega (arith, ints, e)
+
+    low : pos x ≡ floor_of (least_product (u, interval (pos lo) (pos hi))) (scale * d)
+    low = ap pos ex ∙ ap (λ (z : ℤ). floor_of z (scale * d)) (ap (λ (z : ℤ). z *ℤ pos lo) ea ∙ positive_least_above u.lo u.hi (pos lo) (pos hi) h.low h.ordered (omega (arith, ints, o)) (omega (arith, ints)))
+
+    high : pos y ≡ ceil_of (greatest_product (u, interval (pos lo) (pos hi))) (scale * d)
+    high = ey ∙ ap (λ (z : ℤ). ceil_of z (scale * d)) (ap (λ (z : ℤ). z *ℤ pos hi) eb ∙ positive_greatest_above u.lo u.hi (pos lo) (pos hi) h.low h.ordered (omega (arith, ints, o)) (omega (arith, ints)))
+
+-- the turn of the loop at k
+pub short_less : (s : Series) (u : Interval) (n k a b d lo hi x y : ℕ) → IsSquare u → pos a ≡ u.lo → pos b ≡ u.hi → 1 < k → k ≤ n → ShortNested s u n k lo hi
+    → d ≡ divisor s (k - 1) → x ≡ a * lo / (scale * d) → pos y ≡ ceil_of (pos (b * hi)) (scale * d) → x ≤ y → y ≤ scale → ShortNested s u n (k - 1) (scale - y) (scale - x)
+short_less s u n zero a b d lo hi x y h ea eb p l i ed ex ey o k = absurd (omega (arith, p))
+short_less s u n (suc j) a b d lo hi x y h ea eb p l i ed ex ey o k =
+    let e : suc j - 1 ≡ j = omega arith in
+    subst (λ (m : ℕ). ShortNested s u n m (scale - y) (scale - x)) (sym e)
+    (record {
+      partly = nested_more s u (interval (pos lo) (pos hi)) (interval (pos (scale - y)) (pos (scale - x))) n j (pos d) (omega (arith, p)) (omega (arith, l)) i.partly.value (ap pos ed ∙ ap (λ (m : ℕ). pos (divisor s m)) e)
+          (short_step u a b d lo hi x y h ea eb (short_ordered s u n (suc j) lo hi h i) o k ex ey);
+      high = omega arith;
+    })
