@@ -1,5 +1,5 @@
 -- The nested products in 64 bits: numbers that are not negative, and at most the scale.
-use Rattle.std.proofs.Common.{◌≡◌, ℕ, zero, suc, ◌-◌, ◌*◌, ◌/◌, ◌^◌, ◌<◌, ◌≤◌, ℤ, pos, negsuc, ◌-ℤ◌, ◌*ℤ◌, ◌≤ℤ◌, refl, sym, ◌∙◌, ap, subst, arith, to_z}
+use Rattle.std.proofs.Common.{◌≡◌, ℕ, zero, suc, ◌+◌, ◌-◌, ◌*◌, ◌/◌, ◌^◌, ◌<◌, ◌≤◌, ℤ, pos, negsuc, ◌-ℤ◌, ◌*ℤ◌, ◌≤ℤ◌, refl, sym, ◌∙◌, ap, subst, arith, to_z}
 use mir.Syntax.{w128}
 use lib.IntN.{nat_abs}
 use Rattle.std.proofs.lemmas.Int.{ints}
@@ -10,6 +10,7 @@ use Rattle.rb_num.proofs.Ends.{read}
 use Rattle.rb_num.proofs.Quotients.{floor-le-ceil}
 use Rattle.rb_num.proofs.Signs.{positive_least_above, positive_greatest_above}
 use Rattle.rb_trig.specs.declared.sine.Series.{Series}
+use Rattle.rb_trig.specs.declared.sine.Series.TheVariants.{Sine, Cosine}
 use Rattle.rb_trig.specs.Ends.{outward, products}
 use Rattle.rb_trig.specs.Sine.{scale, divisor, step, nested, IsSquare}
 use Rattle.rb_trig.proofs.Nested.{PartlyNested, nested_start, nested_more, divisor_high}
@@ -27,6 +28,11 @@ end_cast r (negsuc n) e l h = absurd (omega (arith, ints, l))
 
 pub divisor_cast : (s : Series) (r : ℤ) (k : ℕ) → k < 2 ^ 30 → r ≡ pos (divisor s k) → nat_abs (held r) ≡ divisor s k
 divisor_cast s r k h e = cast r (divisor s k) e (omega (arith, ints, divisor_high s k r h e, e))
+
+pub few_divisors : (s : Series) (k : ℕ) → k < 2 ^ 10 → divisor s k < 2 ^ 25
+unfolding divisor
+few_divisors Sine k h = let l : 2 * k * (2 * k + 1) ≤ 2 ^ 11 * 2 ^ 11 = mul-le (2 * k) (2 * k + 1) (2 ^ 11) (2 ^ 11) (omega arith) (omega arith) in omega arith
+few_divisors Cosine k h = let l : (2 * k - 1) * (2 * k) ≤ 2 ^ 11 * 2 ^ 11 = mul-le (2 * k - 1) (2 * k) (2 ^ 11) (2 ^ 11) (omega arith) (omega arith) in omega arith
 
 -- ---- the loop
 pub record ShortNested (s : Series) (u : Interval) (n k lo hi : ℕ) : Type 0 where

@@ -1,6 +1,6 @@
 //! Quotients by the scale of the nested products, by a product with a reciprocal and no division, and by
 //! small numbers.
-ghost use Rattle.std.specs.Prelude.{◌≡◌, ◌*◌, ◌-◌, ◌/◌, ◌<◌, ◌≤◌, ◌^◌, pos, neg_ℤ, ◌≤ℤ◌, ◌<ℤ◌, IfSome};
+ghost use Rattle.std.specs.Prelude.{◌≡◌, ◌*◌, ◌/◌, ◌<◌, ◌≤◌, ◌^◌, pos, neg_ℤ, ◌≤ℤ◌, ◌<ℤ◌, IfSome};
 ghost use Rattle.rb_num.specs.Interval.{interval};
 ghost use Rattle.rb_num.specs.Dot.{floor_of, ceil_of};
 ghost use Rattle.rb_trig.specs.Ends.{outward as outward_of};
@@ -18,8 +18,11 @@ const LIFT: i128 = T * NEAR;
 
 const END: u64 = 1_250_000_000_000_000;
 
-// `2^117 / T`, rounded down.
-const RECIPROCAL: u64 = 16_615_349_947_311_448_411;
+/// `2^117 / T`, rounded down.
+pub const RECIPROCAL: u64 = 16_615_349_947_311_448_411;
+
+// `T / 2^16`, which is odd.
+const ODD: u64 = 152_587_890_625;
 
 // `x / T`, rounded down. The product with the reciprocal gives it, or one less.
 #[inline]
@@ -88,21 +91,21 @@ fn short_outward(lo: u64, hi: u64, by: u64) -> Iv
     Iv::new((lo / by) as i128, quotient_up(hi, by) as i128)
 }
 
-// `x / by`, rounded down, where `reciprocal` is `(2^64 - 1) / by`. The product with it gives the quotient,
-// or one less.
+// `x / (T * by)`, rounded down, where `reciprocal` is `RECIPROCAL / by`. The product with it gives the
+// quotient, or one less.
 #[inline]
-#[tactic(auto, using(crate::proofs::Parts::guess_low, crate::proofs::Parts::guess_high))]
-fn small_quotient(x: u64, by: u64, reciprocal: u64) -> u64
+#[tactic(auto, using(crate::proofs::Parts::guess_low, crate::proofs::Parts::guess_high, crate::proofs::Parts::odd_fits))]
+fn part(x: u128, by: u64, reciprocal: u64) -> u64
+    requires small { x < 2 ^ 113 }
     requires positive { 0 < by }
-    requires reciprocal { reciprocal ≡ (2 ^ 64 - 1) / by }
-    ensures { result ≡ x / by }
+    requires few { by < 2 ^ 25 }
+    requires reciprocal { reciprocal ≡ 16615349947311448411 / by }
+    ensures { result ≡ x / (scale * by) }
 {
-    let guess = ((x as u128 * reciprocal as u128) >> 64) as u64;
-    if x - guess * by < by {
-        guess
-    } else {
-        guess + 1
-    }
+    let odd = ODD * by;
+    let guess = (((x >> 49) as u64 as u128 * reciprocal as u128) >> 68) as u64;
+    let rest = ((x >> 16) - guess as u128 * odd as u128) as u64;
+    if rest < odd { guess } else { guess + 1 }
 }
 
 // `u * h / (T * by)`, rounded down.
@@ -111,10 +114,11 @@ pub fn part_down(u: u64, h: u64, by: u64, reciprocal: u64) -> u64
     requires first { u ≤ 64 * scale }
     requires second { h ≤ scale }
     requires positive { 0 < by }
-    requires reciprocal { reciprocal ≡ (2 ^ 64 - 1) / by }
+    requires few { by < 2 ^ 25 }
+    requires reciprocal { reciprocal ≡ 16615349947311448411 / by }
     ensures { result ≡ u * h / (scale * by) }
 {
-    small_quotient(quotient(u as u128 * h as u128), by, reciprocal)
+    part(u as u128 * h as u128, by, reciprocal)
 }
 
 // `u * h / (T * by)`, rounded up.
@@ -123,12 +127,16 @@ pub fn part_up(u: u64, h: u64, by: u64, reciprocal: u64) -> u64
     requires first { u ≤ 64 * scale }
     requires second { h ≤ scale }
     requires positive { 0 < by }
-    requires small { by < 2 ^ 62 }
-    requires reciprocal { reciprocal ≡ (2 ^ 64 - 1) / by }
+    requires few { by < 2 ^ 25 }
+    requires reciprocal { reciprocal ≡ 16615349947311448411 / by }
     ensures { pos result ≡ ceil_of (pos (u * h)) (scale * by) }
 {
-    let up = quotient(u as u128 * h as u128 + (T as u128 - 1));
-    small_quotient(up + (by - 1), by, reciprocal)
+    let x = u as u128 * h as u128;
+    if x == 0 {
+        0
+    } else {
+        part(x - 1, by, reciprocal) + 1
+    }
 }
 
 // Both ends divided by `by`, the lower rounded down and the upper up: in 64 bits, where they fit and are

@@ -3,7 +3,7 @@ ghost use Rattle.rb_num.specs.Dot.{ProductsFit};
 ghost use Rattle.rb_trig.specs.Sine.{divisor as divisor_of, nested as nested_of, step as step_of, square_of, IsSquare, IsAngle, sines, cosines, sin_cos_of, Encloses};
 
 use crate::ends::{clamp, outward, products, squares};
-use crate::scale::{outward_by_scale, outward_by_small, part_down, part_up};
+use crate::scale::{RECIPROCAL, outward_by_scale, outward_by_small, part_down, part_up};
 use rb_num::{Iv, S};
 
 /// The largest size of an angle, in units: eight radians.
@@ -14,6 +14,9 @@ pub const T: i128 = 10_000_000_000_000_000;
 
 // How many terms the shorter sum has.
 const TERMS: u64 = 24;
+
+// So many terms have divisors that are small enough for 64 bits.
+const SHORT_TERMS: u64 = 1 << 10;
 
 /// An end of the angle is larger in size than `ANGLE_LIMIT`.
 #[derive(Clone, Copy, Debug, PartialEq, Eq)]
@@ -51,12 +54,15 @@ impl Series {
         ensures few { result.0 ≤ terms }
         ensures value { result.1 ≡ nested_of self square result.0 (terms - result.0) }
     {
+        if SHORT_TERMS < terms {
+            return (terms, Iv::new(T, T));
+        }
         let (low, high) = (square.lo() as u64, square.hi() as u64);
         let mut lo = T as u64;
         let mut hi = T as u64;
         for k in (1..terms).rev() {
             let divisor = self.divisor(k) as u64;
-            let reciprocal = u64::MAX / divisor;
+            let reciprocal = RECIPROCAL / divisor;
             let least = part_down(low, lo, divisor, reciprocal);
             let greatest = part_up(high, hi, divisor, reciprocal);
             if (T as u64) < greatest {

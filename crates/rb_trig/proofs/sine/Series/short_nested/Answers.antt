@@ -1,9 +1,9 @@
 use Rattle.std.proofs.Common.{◌≡◌, ◌∙◌, ℕ, ◌+◌, ◌-◌, ◌<◌, ◌^◌, ap, arith}
 use Rattle.std.proofs.lemmas.Int.{ints}
 use Rattle.rb_trig.specs.Sine.{nested}
-use Rattle.rb_trig.proofs.Nested.{divisor_high, divisor_held}
+use Rattle.rb_trig.proofs.Nested.{nested_start, divisor_high, divisor_held}
 use Rattle.rb_trig.proofs.Sizes.{some_divisor}
-use Rattle.rb_trig.proofs.Short.{short_start, short_ordered, short_ends, short_below, short_less, end_cast, divisor_cast}
+use Rattle.rb_trig.proofs.Short.{short_start, short_ordered, short_ends, short_below, short_less, end_cast, divisor_cast, few_divisors}
 use Rattle.rb_trig.proofs.sine.Series.short_nested.Goals as goal
 
 pub loop-k-init : goal.loop-k-init
@@ -37,20 +37,23 @@ part_up-greatest-requires-clause-positive c =
     let k = c.loop-k.k - 1 in
     omega (arith, divisor_cast c.args.self _ k (omega arith) c.divisor-divisor.ensures, some_divisor c.args.self k (omega arith))
 
-pub part_up-greatest-requires-clause-small : goal.part_up-greatest-requires-clause-small
-part_up-greatest-requires-clause-small c =
+pub part_down-least-requires-clause-few : goal.part_down-least-requires-clause-few
+part_down-least-requires-clause-few c =
     let k = c.loop-k.k - 1 in
-    let b : k < 2 ^ 30 = omega arith in
-    let h = divisor_high c.args.self k _ b c.divisor-divisor.ensures in
-    omega (arith, ints, divisor_cast c.args.self _ k b c.divisor-divisor.ensures, h, c.divisor-divisor.ensures)
+    omega (arith, divisor_cast c.args.self _ k (omega arith) c.divisor-divisor.ensures, few_divisors c.args.self k (omega (arith, c.if-terms-gt-SHORT_TERMS.false)))
 
-pub new-requires : goal.new-requires
-new-requires c = (short_ends _ _ _ _ _ _ c.requires.square c.loop-k.invariant).whole
+pub part_up-greatest-requires-clause-few : goal.part_up-greatest-requires-clause-few
+part_up-greatest-requires-clause-few c =
+    let k = c.loop-k.k - 1 in
+    omega (arith, divisor_cast c.args.self _ k (omega arith) c.divisor-divisor.ensures, few_divisors c.args.self k (omega (arith, c.if-terms-gt-SHORT_TERMS.false)))
+
+pub new-requires-then-greatest : goal.new-requires-then-greatest
+new-requires-then-greatest c = (short_ends _ _ _ _ _ _ c.requires.square c.loop-k.invariant).whole
 
 pub returns-then-greatest-clause-value : goal.returns-then-greatest-clause-value
 returns-then-greatest-clause-value c =
     let e : c.loop-k.k ≡ c.loop-k.k - 1 + 1 = omega arith in
-    c.new.ensures ∙ (short_ends _ _ _ _ _ _ c.requires.square c.loop-k.invariant).value ∙ ap (λ (k : ℕ). nested c.args.self c.args.square k (c.args.terms - k)) e
+    c.new-then-greatest.ensures ∙ (short_ends _ _ _ _ _ _ c.requires.square c.loop-k.invariant).value ∙ ap (λ (k : ℕ). nested c.args.self c.args.square k (c.args.terms - k)) e
 
 pub overflow_sub-hi : goal.overflow_sub-hi
 overflow_sub-hi c =
@@ -74,3 +77,6 @@ loop-k-preserved c =
 
 pub new-requires-2 : goal.new-requires-2
 new-requires-2 c = (short_ends _ _ _ _ _ _ c.requires.square c.loop-k.invariant).whole
+
+pub returns-then-terms-gt-SHORT_TERMS-clause-value : goal.returns-then-terms-gt-SHORT_TERMS-clause-value
+returns-then-terms-gt-SHORT_TERMS-clause-value c = (nested_start c.args.self c.args.square _ c.args.terms c.requires.some c.new.ensures).value
