@@ -9,7 +9,7 @@ use Rattle.rb_tags.specs.declared.tag.TheConstants.{MAX_DEPTH, MAX_TAGS}
 use Rattle.rb_tags.specs.declared.tag.Tag.{Tag}
 use Rattle.rb_tags.specs.declared.read.TagKind.{TagKind}
 use Rattle.rb_tags.specs.declared.read.TagKind.TheVariants.{BadMark, Twice, Depth, TooMany, Mismatch}
-use Rattle.rb_tags.specs.Seen.{OpenElement, Seen, are_distinct, with_tag, entered, started, ended_in, ended, with_data, marked}
+use Rattle.rb_tags.specs.Seen.{OpenElement, Seen, are_distinct, with_tag, entered, may_start, started, ended_in, ended, with_data, marked}
 use Rattle.rb_tags.specs.Grammar.{WrittenStart, IsStart, start_text, start_of, WrittenEnd, IsEnd, end_text, WrittenMark, Instruction, Comment, Data, Start, End, IsMark, mark_text, mark_of_written, MayStart, MayFollow, Closes, others_of, elements_after, tags_of_mark}
 use Rattle.rb_tags.specs.Refusals.{AtMark, AtInner, HasFaultOf}
 use Rattle.rb_tags.proofs.Distinct.{written_distinct, distinct_again}
@@ -57,12 +57,15 @@ pub data StartAnswer (seen : Seen) (s : WrittenStart) (r : Result Seen TagKind) 
   AMany : second seen ≡ false → are_distinct (start_of s).attrs ≡ true → length seen.open_elements < MAX_DEPTH → MAX_TAGS ≤ length seen.tags → r ≡ Err TooMany → StartAnswer seen s r taken
   ATaken : second seen ≡ false → are_distinct (start_of s).attrs ≡ true → length seen.open_elements < MAX_DEPTH → length seen.tags < MAX_TAGS → r ≡ Ok taken → StartAnswer seen s r taken
 
+abbrev stands : Result (Unit {0}) TagKind
+stands = Ok tt
+
 pub answer_of : (seen : Seen) (place : ℕ) (s : WrittenStart) → StartAnswer seen s (started seen place (start_of s)) (entered (with_tag seen place (start_of s)) place (start_of s))
-unfolding started
+unfolding started may_start
 answer_of seen place s = by_tests (entered (with_tag seen place (start_of s)) place (start_of s)) (second seen) (are_distinct (start_of s).attrs) (leb MAX_DEPTH (length seen.open_elements)) (leb MAX_TAGS (length seen.tags)) refl refl refl refl
   where
     by_tests : (taken : Seen) (a b c d : Bool) → second seen ≡ a → are_distinct (start_of s).attrs ≡ b → leb MAX_DEPTH (length seen.open_elements) ≡ c → leb MAX_TAGS (length seen.tags) ≡ d
-        → StartAnswer seen s (cond a (Err BadMark) (cond (not b) (Err Twice) (cond c (Err Depth) (cond d (Err TooMany) (Ok taken))))) taken
+        → StartAnswer seen s (cond a (Err BadMark) (cond (not b) (Err Twice) (cond c (Err Depth) (cond d (Err TooMany) stands))) >>= λ _. Ok taken) taken
     by_tests taken true b c d h i j k = ASecond h refl
     by_tests taken false false c d h i j k = ATwice h i refl
     by_tests taken false true true d h i j k = ADeep h i (grind (arith, nat_tests)) refl

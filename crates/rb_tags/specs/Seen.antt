@@ -42,14 +42,18 @@ with_tag seen place start = record seen { tags = seen.tags ++ tag_of start place
 abbrev pub entered : Seen → ℕ → StartTag → Seen
 entered seen place start = if start.closes then seen else record seen { open_elements = record { name = start.name; place = place } ∷ seen.open_elements }
 
--- after a start tag whose < is at a place
-unfoldable pub started : Seen → ℕ → StartTag → Result Seen TagKind
-started seen place start =
+-- whether a start tag may stand here, whose attributes have different names or not
+unfoldable pub may_start : Seen → Bool → Result (Unit {0}) TagKind
+may_start seen distinct =
     if length seen.open_elements == 0 && nat_lt 0 (length seen.tags) then Err BadMark else
-    if not (are_distinct start.attrs) then Err Twice else
+    if not distinct then Err Twice else
     if nat_le MAX_DEPTH (length seen.open_elements) then Err Depth else
     if nat_le MAX_TAGS (length seen.tags) then Err TooMany else
-    Ok (entered (with_tag seen place start) place start)
+    Ok tt
+
+-- after a start tag whose < is at a place
+unfoldable pub started : Seen → ℕ → StartTag → Result Seen TagKind
+started seen place start = may_start seen (are_distinct start.attrs) >>= λ _. Ok (entered (with_tag seen place start) place start)
 
 abbrev pub ended_in : List OpenElement → List ℕ → Result (List OpenElement) TagKind
 ended_in [] name = Err Mismatch

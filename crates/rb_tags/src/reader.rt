@@ -1,6 +1,6 @@
-ghost use Rattle.std.specs.Prelude.{◌≡◌, ◌+◌, ◌^◌, ◌<◌, ◌≤◌, length, All};
+ghost use Rattle.std.specs.Prelude.{◌≡◌, ◌≢◌, ◌+◌, ◌^◌, ◌<◌, ◌≤◌, length, All, IsTrue, OnOk, Err};
 ghost use Rattle.rb_tags.specs.Faults.{placed_kind, no_memory};
-ghost use Rattle.rb_tags.specs.Seen.{nothing_seen, with_tag, started, ended, with_data, marked, marked_at, read_mark, read_text, finished};
+ghost use Rattle.rb_tags.specs.Seen.{nothing_seen, with_tag, may_start, started, ended, with_data, marked, marked_at, read_mark, read_text, finished};
 ghost use Rattle.rb_tags.specs.Kept.{IsReadTag, IsReading, HasDistinctNames};
 ghost use Rattle.rb_tags.specs.declared.tag.TheConstants.{MAX_DEPTH, MAX_TAGS};
 ghost use Rattle.rb_result.specs.Steps.{Gives};
@@ -54,16 +54,20 @@ impl Reader {
         }
     }
 
-    /// Takes a start tag whose `<` is at a place.
-    #[tactic(auto, using(crate::proofs::Distinct::distinct_holds), unfolding(crate::specs::Seen::started))]
-    fn start(&mut self, alloc: Global, place: u64, start: StartTag) -> Result<(), TagKind>
-        ensures { Gives Memory (λ _. seen_of self.new) result (started (seen_of self.old) place start) }
+    /// Whether a start tag may stand here, whose attributes have different names or not.
+    #[tactic(auto, unfolding(crate::specs::Seen::may_start))]
+    fn may_start(&self, distinct: bool) -> Result<(), TagKind>
+        ensures exact { result ≡ may_start (seen_of self.now) distinct }
+        ensures shallow { OnOk result (length (seen_of self.now).open_elements < MAX_DEPTH) }
+        ensures room { OnOk result (length (seen_of self.now).tags < MAX_TAGS) }
+        ensures nested { OnOk result (length (seen_of self.now).open_elements ≡ 0 → length (seen_of self.now).tags ≡ 0) }
+        ensures distinct { OnOk result (IsTrue distinct) }
     {
         let depth = self.open.len();
         if depth == 0 && !self.tags.is_empty() {
             return Err(TagKind::BadMark);
         }
-        if !are_distinct(alloc, start.attrs.as_slice())? {
+        if !distinct {
             return Err(TagKind::Twice);
         }
         if depth >= MAX_DEPTH {
@@ -72,6 +76,16 @@ impl Reader {
         if self.tags.len() >= MAX_TAGS {
             return Err(TagKind::TooMany);
         }
+        Ok(())
+    }
+
+    /// Takes a start tag whose `<` is at a place.
+    #[tactic(auto, using(crate::proofs::Distinct::distinct_holds), unfolding(crate::specs::Seen::started))]
+    fn start(&mut self, alloc: Global, place: u64, start: StartTag) -> Result<(), TagKind>
+        ensures { Gives Memory (λ _. seen_of self.new) result (started (seen_of self.old) place start) }
+    {
+        let distinct = are_distinct(alloc, start.attrs.as_slice())?;
+        self.may_start(distinct)?;
         if start.closes {
             return self.add(place, start);
         }
@@ -101,7 +115,8 @@ impl Reader {
     /// Takes an end tag.
     #[tactic(auto, unfolding(crate::specs::Seen::ended))]
     fn end(&mut self, name: &str) -> Result<(), TagKind>
-        ensures { Gives Memory (λ _. seen_of self.new) result (ended (seen_of self.old) name.now) }
+        ensures gives { Gives Memory (λ _. seen_of self.new) result (ended (seen_of self.old) name.now) }
+        ensures takes_no_memory { result ≢ Err Memory }
     {
         match self.open.pop() {
             Some(innermost) if innermost.name.as_str() == name => Ok(()),
@@ -112,7 +127,8 @@ impl Reader {
     /// Takes a section of data, which stands only inside an element.
     #[tactic(auto, unfolding(crate::specs::Seen::with_data))]
     fn data(&self) -> Result<(), TagKind>
-        ensures { Gives Memory (λ _. seen_of self.now) result (with_data (seen_of self.now)) }
+        ensures gives { Gives Memory (λ _. seen_of self.now) result (with_data (seen_of self.now)) }
+        ensures takes_no_memory { result ≢ Err Memory }
     {
         if self.open.is_empty() {
             return Err(TagKind::BadMark);
@@ -167,7 +183,8 @@ impl Reader {
     #[tactic(auto, unfolding(crate::specs::Seen::read_text))]
     pub fn text<'b>(&self, place: u64, text: &'b str) -> Result<&'b str, TagFault>
         requires { place + length text.now < 2 ^ 64 }
-        ensures { Gives no_memory (λ rest. rest.now) result (read_text (seen_of self.now) place text.now) }
+        ensures gives { Gives no_memory (λ rest. rest.now) result (read_text (seen_of self.now) place text.now) }
+        ensures takes_no_memory { result ≢ Err no_memory }
     {
         let (before, rest) = Class::Text.run(text);
         let (space, other) = Class::Space.run(before);
@@ -183,7 +200,8 @@ impl Reader {
     /// The tags, at the end of a file of a size.
     #[tactic(auto, unfolding(crate::specs::Seen::finished))]
     pub fn finish(self, size: u64) -> Result<Tags, TagFault>
-        ensures { Gives no_memory (λ tags. tags) result (finished (seen_of self) size) }
+        ensures gives { Gives no_memory (λ tags. tags) result (finished (seen_of self) size) }
+        ensures takes_no_memory { result ≢ Err no_memory }
     {
         if let Some(innermost) = self.open.last() {
             return Err(TagFault {

@@ -17,3 +17,4 @@ pub mod Splits
 pub mod Texts
 pub mod FormLemmas
 pub mod FormLaws
+pub mod Stopping

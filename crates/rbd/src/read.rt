@@ -2,7 +2,7 @@
 ghost use Rattle.std.specs.Prelude.{◌≡◌, ◌≤◌, ◌<◌, ◌^◌, ◌⊎◌, IsTrue, length, codes, IfOk, IfErr, MatchResult, Result, Ok, Err};
 ghost use Rattle.rbd.specs.Course.{robot_of, rows_within, rows_of, most_file, most_line, most_rows};
 ghost use Rattle.rbd.specs.Cut.{lines_of};
-ghost use Rattle.rbd.specs.Stops.{is_plain, is_plain_stop, is_file_stop, Causes, IsRobotStep, IsRowsStep};
+ghost use Rattle.rbd.specs.Stops.{is_plain, is_plain_stop, is_file_stop, Causes, IsRobotStep, IsRowsStep, stop_of_tags, stop_of_form, stop_of_file};
 
 use crate::chain::Chain;
 use crate::form::{FormFault, chain_from};
@@ -10,7 +10,7 @@ use crate::lines::next_line;
 use crate::row::is_header;
 use crate::stop::Stop;
 use rb_io::{Bytes, FileFault, Inputs, read_all};
-use rb_tags::{TagKind, read_tags};
+use rb_tags::{TagFault, TagKind, read_tags};
 use std::alloc::Global;
 
 /// The most bytes of a robot's file.
@@ -22,8 +22,42 @@ pub(crate) const MOST_LINE: usize = 65_536;
 /// The most bytes of the rows.
 pub(crate) const MOST_ROWS: u64 = 1 << 40;
 
+/// The stop for a fault of a robot's tags.
+#[tactic(auto, unfolding(crate::specs::Stops::stop_of_tags))]
+fn stop_of_tags(fault: TagFault) -> Stop
+    ensures { result ≡ stop_of_tags fault }
+{
+    match fault.kind {
+        TagKind::Memory => Stop::Memory,
+        _ => Stop::BadTags(fault),
+    }
+}
+
+/// The stop for tags that hold no chain.
+#[tactic(auto, unfolding(crate::specs::Stops::stop_of_form))]
+fn stop_of_form(fault: FormFault) -> Stop
+    ensures { result ≡ stop_of_form fault }
+{
+    match fault {
+        FormFault::Unbuilt => Stop::Unbuilt,
+        FormFault::Memory => Stop::Memory,
+    }
+}
+
+/// The stop for a fault of reading a name whole, where `long` is that of a name that holds too much.
+#[tactic(auto, unfolding(crate::specs::Stops::stop_of_file))]
+fn stop_of_file(fault: FileFault, long: Stop) -> Stop
+    ensures { result ≡ stop_of_file fault long }
+{
+    match fault {
+        FileFault::TooLong => long,
+        FileFault::Failed => Stop::Input,
+        FileFault::Memory => Stop::Memory,
+    }
+}
+
 /// The chain that a file's bytes hold.
-#[tactic(auto, unfolding(crate::specs::Course::robot_of))]
+#[tactic(auto, using(crate::proofs::Stopping::tags_stop_only), unfolding(crate::specs::Course::robot_of))]
 fn chain_of_bytes(alloc: Global, bytes: &[u8]) -> Result<Chain, Stop>
     requires { length bytes.now ≤ most_file }
     ensures ok { IfOk result (λ chain. robot_of bytes.now ≡ Ok chain) }
@@ -32,17 +66,11 @@ fn chain_of_bytes(alloc: Global, bytes: &[u8]) -> Result<Chain, Stop>
 {
     let tags = match read_tags(alloc, bytes) {
         Ok(tags) => tags,
-        Err(fault) => {
-            return match fault.kind {
-                TagKind::Memory => Err(Stop::Memory),
-                _ => Err(Stop::BadTags(fault)),
-            };
-        }
+        Err(fault) => return Err(stop_of_tags(fault)),
     };
     match chain_from(alloc, &tags) {
         Ok(chain) => Ok(chain),
-        Err(FormFault::Unbuilt) => Err(Stop::Unbuilt),
-        Err(FormFault::Memory) => Err(Stop::Memory),
+        Err(fault) => Err(stop_of_form(fault)),
     }
 }
 
@@ -63,9 +91,7 @@ pub(crate) fn read_chain<I: Inputs>(
 {
     match read_all(alloc, inputs, name, MOST_FILE) {
         Ok(bytes) => chain_of_bytes(alloc, bytes.as_slice()),
-        Err(FileFault::TooLong) => Err(Stop::LongFile),
-        Err(FileFault::Failed) => Err(Stop::Input),
-        Err(FileFault::Memory) => Err(Stop::Memory),
+        Err(fault) => Err(stop_of_file(fault, Stop::LongFile)),
     }
 }
 
@@ -82,9 +108,7 @@ pub(crate) fn read_rows<I: Inputs>(alloc: Global, inputs: &mut I) -> Result<Byte
 {
     match read_all(alloc, inputs, "-", MOST_ROWS) {
         Ok(bytes) => Ok(bytes),
-        Err(FileFault::TooLong) => Err(Stop::LongRows),
-        Err(FileFault::Failed) => Err(Stop::Input),
-        Err(FileFault::Memory) => Err(Stop::Memory),
+        Err(fault) => Err(stop_of_file(fault, Stop::LongRows)),
     }
 }
 

@@ -20,31 +20,31 @@ text-requires c = let h = c.loop-reader.invariant.1 in let within = h.within in 
 pub returns-in_err-rest : goal.returns-in_err-rest
 returns-in_err-rest c =
     let p = err_from_is_err_and c.from_residual.result c.from_residual.ensures.1 in
-    rw (p.1, p.2) (text_refused c.args.text.now (seen_of c.loop-reader.reader) c.loop-reader.left.now c.in_err-rest.field-0.0 c.loop-reader.invariant.1 c.in_err-rest.ensures)
+    rw (p.1, p.2) (text_refused c.args.text.now (seen_of c.loop-reader.reader) c.loop-reader.left.now c.in_err-rest.field-0.0 c.loop-reader.invariant.1 c.in_err-rest.ensures.gives)
 
 pub overflow_sub-size-in-loop-reader : goal.overflow_sub-size-in-loop-reader
 overflow_sub-size-in-loop-reader c =
-    let h = text_more c.args.text.now (seen_of c.loop-reader.reader) c.loop-reader.left.now c.in_ok-rest.rest.now c.loop-reader.invariant.1 c.in_ok-rest.ensures in
+    let h = text_more c.args.text.now (seen_of c.loop-reader.reader) c.loop-reader.left.now c.in_ok-rest.rest.now c.loop-reader.invariant.1 c.in_ok-rest.ensures.gives in
     let shorter = h.shorter in
     let within = h.within in
     omega arith
 
 pub returns-in_default : goal.returns-in_default
 returns-in_default c =
-    let h = text_more c.args.text.now (seen_of c.loop-reader.reader) c.loop-reader.left.now c.in_ok-rest.rest.now c.loop-reader.invariant.1 c.in_ok-rest.ensures in
+    let h = text_more c.args.text.now (seen_of c.loop-reader.reader) c.loop-reader.left.now c.in_ok-rest.rest.now c.loop-reader.invariant.1 c.in_ok-rest.ensures.gives in
     let none : after_front (codes "<") c.in_ok-rest.rest.now ≡ None = sym c.in_default.ensures in
-    subst (λ (r : Result (List Tag) TagFault). Gives no_memory (λ tags. tags) c.finish.result r) (left_end c.args.text.now (seen_of c.loop-reader.reader) c.loop-reader.left.now c.in_ok-rest.rest.now h none) c.finish.ensures
+    subst (λ (r : Result (List Tag) TagFault). Gives no_memory (λ tags. tags) c.finish.result r) (left_end c.args.text.now (seen_of c.loop-reader.reader) c.loop-reader.left.now c.in_ok-rest.rest.now h none) c.finish.ensures.gives
 
 pub returns-in_err-left : goal.returns-in_err-left
 returns-in_err-left c =
-    let h = text_more c.args.text.now (seen_of c.loop-reader.reader) c.loop-reader.left.now c.in_ok-rest.rest.now c.loop-reader.invariant.1 c.in_ok-rest.ensures in
+    let h = text_more c.args.text.now (seen_of c.loop-reader.reader) c.loop-reader.left.now c.in_ok-rest.rest.now c.loop-reader.invariant.1 c.in_ok-rest.ensures.gives in
     let some : after_front (codes "<") c.in_ok-rest.rest.now ≡ Some c.in-Some.behind.now = sym c.in-Some.ensures in
     let p = err_from_is_err_and c.from_residual-in_err-left.result c.from_residual-in_err-left.ensures.1 in
     rw (p.1, p.2) (mark_refused c.args.text.now (seen_of c.loop-reader.reader) c.loop-reader.left.now c.in_ok-rest.rest.now c.in-Some.behind.now c.in_err-left.field-0.0 h (mark_begins c.in_ok-rest.rest.now c.in-Some.behind.now some) c.in_err-left.ensures)
 
 pub loop-reader-smaller : goal.loop-reader-smaller
 loop-reader-smaller c =
-    let h = text_more c.args.text.now (seen_of c.loop-reader.reader) c.loop-reader.left.now c.in_ok-rest.rest.now c.loop-reader.invariant.1 c.in_ok-rest.ensures in
+    let h = text_more c.args.text.now (seen_of c.loop-reader.reader) c.loop-reader.left.now c.in_ok-rest.rest.now c.loop-reader.invariant.1 c.in_ok-rest.ensures.gives in
     let some : after_front (codes "<") c.in_ok-rest.rest.now ≡ Some c.in-Some.behind.now = sym c.in-Some.ensures in
     let begins = mark_begins c.in_ok-rest.rest.now c.in-Some.behind.now some in
     let less = read_no_longer (seen_of c.loop-reader.reader) (length c.args.text.now - length c.in_ok-rest.rest.now) c.in-Some.behind.now (seen_of c.mark.new.self) c.in_ok-left.left.now c.in_ok-left.ensures in
@@ -63,7 +63,7 @@ loop-reader-init c =
 
 pub loop-reader-preserved : goal.loop-reader-preserved
 loop-reader-preserved c =
-    let h = text_more c.args.text.now (seen_of c.loop-reader.reader) c.loop-reader.left.now c.in_ok-rest.rest.now c.loop-reader.invariant.1 c.in_ok-rest.ensures in
+    let h = text_more c.args.text.now (seen_of c.loop-reader.reader) c.loop-reader.left.now c.in_ok-rest.rest.now c.loop-reader.invariant.1 c.in_ok-rest.ensures.gives in
     let some : after_front (codes "<") c.in_ok-rest.rest.now ≡ Some c.in-Some.behind.now = sym c.in-Some.ensures in (
       search rules,
       mark_more c.args.text.now (seen_of c.loop-reader.reader) (seen_of c.mark.new.self) c.loop-reader.left.now c.in_ok-rest.rest.now c.in-Some.behind.now c.in_ok-left.left.now h (mark_begins c.in_ok-rest.rest.now c.in-Some.behind.now some) c.in_ok-left.ensures,
