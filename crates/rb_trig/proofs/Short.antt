@@ -13,10 +13,10 @@ use Rattle.rb_trig.specs.declared.sine.Series.{Series}
 use Rattle.rb_trig.specs.declared.sine.Series.TheVariants.{Sine, Cosine}
 use Rattle.rb_trig.specs.Ends.{outward, products}
 use Rattle.rb_trig.specs.Sine.{scale, divisor, step, nested, IsSquare}
-use Rattle.rb_trig.proofs.Nested.{PartlyNested, nested_start, nested_more, divisor_high}
+use Rattle.rb_trig.proofs.Nested.{PartlyNested, nested_start, nested_more}
 use Rattle.rb_trig.proofs.Parts.{short_read}
 use Rattle.rb_trig.proofs.Read.{held, Makes}
-use Rattle.rb_trig.proofs.Sizes.{nested_within}
+use Rattle.rb_trig.proofs.Sizes.{some_divisor, nested_within}
 
 -- ---- casts
 pub cast : (r : ℤ) (n : ℕ) → r ≡ pos n → n < 2 ^ 126 → nat_abs (held r) ≡ n
@@ -26,13 +26,17 @@ pub end_cast : (r y : ℤ) → r ≡ y → pos 0 ≤ℤ y → y ≤ℤ pos limit
 end_cast r (pos n) e l h = ap pos (cast r n e (omega (arith, ints, h)))
 end_cast r (negsuc n) e l h = absurd (omega (arith, ints, l))
 
-pub divisor_cast : (s : Series) (r : ℤ) (k : ℕ) → k < 2 ^ 30 → r ≡ pos (divisor s k) → nat_abs (held r) ≡ divisor s k
-divisor_cast s r k h e = cast r (divisor s k) e (omega (arith, ints, divisor_high s k r h e, e))
-
-pub few_divisors : (s : Series) (k : ℕ) → k < 2 ^ 10 → divisor s k < 2 ^ 25
+few_divisors : (s : Series) (k : ℕ) → k < 2 ^ 10 → divisor s k < 2 ^ 25
 unfolding divisor
 few_divisors Sine k h = let l : 2 * k * (2 * k + 1) ≤ 2 ^ 11 * 2 ^ 11 = mul-le (2 * k) (2 * k + 1) (2 ^ 11) (2 ^ 11) (omega arith) (omega arith) in omega arith
 few_divisors Cosine k h = let l : (2 * k - 1) * (2 * k) ≤ 2 ^ 11 * 2 ^ 11 = mul-le (2 * k - 1) (2 * k) (2 ^ 11) (2 ^ 11) (omega arith) (omega arith) in omega arith
+
+-- ---- what a step divides by
+pub divider_low : (s : Series) (k d : ℕ) → 1 ≤ k → 2 ^ 16 * d ≡ scale * divisor s k → 2 ^ 37 ≤ d
+divider_low s k d h e = omega (arith, some_divisor s k h, e)
+
+pub divider_high : (s : Series) (k d : ℕ) → k < 2 ^ 10 → 2 ^ 16 * d ≡ scale * divisor s k → d < 2 ^ 63
+divider_high s k d h e = omega (arith, few_divisors s k h, e)
 
 -- ---- the loop
 pub record ShortNested (s : Series) (u : Interval) (n k lo hi : ℕ) : Type 0 where

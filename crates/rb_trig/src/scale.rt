@@ -18,11 +18,8 @@ const LIFT: i128 = T * NEAR;
 
 const END: u64 = 1_250_000_000_000_000;
 
-/// `2^117 / T`, rounded down.
-pub const RECIPROCAL: u64 = 16_615_349_947_311_448_411;
-
-// `T / 2^16`, which is odd.
-const ODD: u64 = 152_587_890_625;
+// `2^117 / T`, rounded down.
+const RECIPROCAL: u64 = 16_615_349_947_311_448_411;
 
 // `x / T`, rounded down. The product with the reciprocal gives it, or one less.
 #[inline]
@@ -91,45 +88,44 @@ fn short_outward(lo: u64, hi: u64, by: u64) -> Iv
     Iv::new((lo / by) as i128, quotient_up(hi, by) as i128)
 }
 
-// `x / (T * by)`, rounded down, where `reciprocal` is `RECIPROCAL / by`. The product with it gives the
+// `x / (2^16 * by)`, rounded down, where `reciprocal` is `2^101 / by`. The product with it gives the
 // quotient, or one less.
 #[inline]
-#[tactic(auto, using(crate::proofs::Parts::guess_low, crate::proofs::Parts::guess_high, crate::proofs::Parts::odd_fits))]
+#[tactic(auto, using(crate::proofs::Parts::guess_low, crate::proofs::Parts::guess_high))]
 fn part(x: u128, by: u64, reciprocal: u64) -> u64
     requires small { x < 2 ^ 113 }
-    requires positive { 0 < by }
-    requires few { by < 2 ^ 25 }
-    requires reciprocal { reciprocal ≡ 16615349947311448411 / by }
-    ensures { result ≡ x / (scale * by) }
+    requires low { 2 ^ 37 ≤ by }
+    requires high { by < 2 ^ 63 }
+    requires reciprocal { reciprocal ≡ 2 ^ 101 / by }
+    ensures { result ≡ x / (2 ^ 16 * by) }
 {
-    let odd = ODD * by;
     let guess = (((x >> 49) as u64 as u128 * reciprocal as u128) >> 68) as u64;
-    let rest = ((x >> 16) - guess as u128 * odd as u128) as u64;
-    if rest < odd { guess } else { guess + 1 }
+    let rest = ((x >> 16) - guess as u128 * by as u128) as u64;
+    if rest < by { guess } else { guess + 1 }
 }
 
-// `u * h / (T * by)`, rounded down.
+// `u * h / (2^16 * by)`, rounded down.
 #[inline]
 pub fn part_down(u: u64, h: u64, by: u64, reciprocal: u64) -> u64
     requires first { u ≤ 64 * scale }
     requires second { h ≤ scale }
-    requires positive { 0 < by }
-    requires few { by < 2 ^ 25 }
-    requires reciprocal { reciprocal ≡ 16615349947311448411 / by }
-    ensures { result ≡ u * h / (scale * by) }
+    requires low { 2 ^ 37 ≤ by }
+    requires high { by < 2 ^ 63 }
+    requires reciprocal { reciprocal ≡ 2 ^ 101 / by }
+    ensures { result ≡ u * h / (2 ^ 16 * by) }
 {
     part(u as u128 * h as u128, by, reciprocal)
 }
 
-// `u * h / (T * by)`, rounded up.
+// `u * h / (2^16 * by)`, rounded up.
 #[inline]
 pub fn part_up(u: u64, h: u64, by: u64, reciprocal: u64) -> u64
     requires first { u ≤ 64 * scale }
     requires second { h ≤ scale }
-    requires positive { 0 < by }
-    requires few { by < 2 ^ 25 }
-    requires reciprocal { reciprocal ≡ 16615349947311448411 / by }
-    ensures { pos result ≡ ceil_of (pos (u * h)) (scale * by) }
+    requires low { 2 ^ 37 ≤ by }
+    requires high { by < 2 ^ 63 }
+    requires reciprocal { reciprocal ≡ 2 ^ 101 / by }
+    ensures { pos result ≡ ceil_of (pos (u * h)) (2 ^ 16 * by) }
 {
     let x = u as u128 * h as u128;
     if x == 0 {

@@ -2,8 +2,9 @@ ghost use Rattle.std.specs.Prelude.{◌≡◌, ℕ, ℤ, pos, ◌-◌, ◌≤◌
 ghost use Rattle.rb_num.specs.Dot.{ProductsFit};
 ghost use Rattle.rb_trig.specs.Sine.{divisor as divisor_of, nested as nested_of, step as step_of, square_of, IsSquare, IsAngle, sines, cosines, sin_cos_of, Encloses};
 
+use crate::dividers::divider;
 use crate::ends::{clamp, outward, products, squares};
-use crate::scale::{RECIPROCAL, outward_by_scale, outward_by_small, part_down, part_up};
+use crate::scale::{outward_by_scale, outward_by_small, part_down, part_up};
 use rb_num::{Iv, S};
 
 /// The largest size of an angle, in units: eight radians.
@@ -15,8 +16,8 @@ pub const T: i128 = 10_000_000_000_000_000;
 // How many terms the shorter sum has.
 const TERMS: u64 = 24;
 
-// So many terms have divisors that are small enough for 64 bits.
-const SHORT_TERMS: u64 = 1 << 10;
+// The greatest number of terms that are summed in 64 bits.
+const SHORT_TERMS: u64 = 25;
 
 /// An end of the angle is larger in size than `ANGLE_LIMIT`.
 #[derive(Clone, Copy, Debug, PartialEq, Eq)]
@@ -24,7 +25,7 @@ pub struct AngleRange;
 
 // The series of the sine and that of the cosine.
 #[derive(Clone, Copy)]
-enum Series {
+pub enum Series {
     Sine,
     Cosine,
 }
@@ -61,10 +62,9 @@ impl Series {
         let mut lo = T as u64;
         let mut hi = T as u64;
         for k in (1..terms).rev() {
-            let divisor = self.divisor(k) as u64;
-            let reciprocal = RECIPROCAL / divisor;
-            let least = part_down(low, lo, divisor, reciprocal);
-            let greatest = part_up(high, hi, divisor, reciprocal);
+            let (by, reciprocal) = divider(self, k);
+            let least = part_down(low, lo, by, reciprocal);
+            let greatest = part_up(high, hi, by, reciprocal);
             if (T as u64) < greatest {
                 return (k + 1, Iv::new(lo as i128, hi as i128));
             }
