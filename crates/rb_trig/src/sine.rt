@@ -47,6 +47,7 @@ impl Series {
 
     // The nested products from the last term down to one, in 64 bits, as long as no end is negative; and
     // which term that is.
+    #[inline(always)]
     fn short_nested(self, square: Iv, terms: u64) -> (u64, Iv)
         requires square { IsSquare square }
         requires some { 1 ≤ terms }
@@ -76,6 +77,7 @@ impl Series {
 
     // The sum of this many terms, by nested products; the sine's is without its first factor, the
     // angle. The square of the angle and the result count parts of `T`.
+    #[inline(always)]
     fn nested(self, square: Iv, terms: u64) -> Iv
         requires square { IsSquare square }
         requires some { 1 ≤ terms }
@@ -104,6 +106,7 @@ fn step(square: Iv, sum: Iv, divisor: i128) -> Iv
 }
 
 // The sine's sum of this many terms.
+#[inline(always)]
 fn sine(angle: Iv, square: Iv, terms: u64) -> Iv
     requires angle { IsAngle angle }
     requires square { IsSquare square }
@@ -115,6 +118,7 @@ fn sine(angle: Iv, square: Iv, terms: u64) -> Iv
 }
 
 // The cosine's sum of this many terms.
+#[inline(always)]
 fn cosine(square: Iv, terms: u64) -> Iv
     requires square { IsSquare square }
     requires some { 1 ≤ terms }
