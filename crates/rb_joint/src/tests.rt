@@ -1,5 +1,6 @@
 use crate::{
     AnyJoint, Fixed, JointFault, JointModel, Prismatic, Quaternion, Revolute, SineCosine, frame_of,
+    turn_of,
 };
 use rb_num::{Iv, NumFault, S};
 use rb_spatial::{Frame, Mat3, Vec3};
@@ -74,6 +75,31 @@ fn frames_of_one_angle(rt: HostRuntime) {
     assert!(rt; matches!(pitch, Some(r) if is_near_table(&r, [[0, 0, 1], [0, 1, 0], [-1, 0, 0]])));
     let yaw = rotated(Iv::ZERO, Iv::ZERO, quarter());
     assert!(rt; matches!(yaw, Some(r) if is_near_table(&r, [[0, -1, 0], [1, 0, 0], [0, 0, 1]])));
+}
+
+fn hundredths(n: i32) -> Iv {
+    let end = i128::from(n) * (S / 100);
+    Iv::new(end, end)
+}
+
+fn level_vector(x: i32, y: i32) -> Vec3 {
+    Vec3::new(hundredths(x), hundredths(y), Iv::ZERO)
+}
+
+// The vector part along z is 3/5 and the scalar part 4/5, which are the sine and the cosine of half the angle: the sine of the angle is
+// 2 * 3/5 * 4/5 = 24/25, and its cosine 16/25 - 9/25 = 7/25.
+#[test]
+fn turn_of_a_quaternion(rt: HostRuntime) {
+    let q = Quaternion {
+        x: Iv::ZERO,
+        y: Iv::ZERO,
+        z: hundredths(60),
+        w: hundredths(80),
+    };
+    let turn = turn_of(&q).ok();
+    assert!(rt;
+        matches!(turn, Some(t) if t.x() == level_vector(28, -96) && t.y() == level_vector(96, 28) && t.z() == vector(0, 0, 1))
+    );
 }
 
 // Roll comes first and yaw last: z goes to minus y, and on to x.

@@ -125,6 +125,16 @@ mod tests {
         );
     }
 
+    // From -2 to 1, the square is at most 4.
+    #[test]
+    fn an_axis_across_zero(rt: HostRuntime) {
+        let across = Iv::new(-2 * S, S);
+        assert_eq!(rt;
+            unit_scale(across, Iv::ONE, Iv::ZERO),
+            Ok(Iv::new(447_213_595_499, S))
+        );
+    }
+
     #[test]
     fn refused_axes(rt: HostRuntime) {
         assert_eq!(rt;

@@ -312,10 +312,15 @@ const ARM: &str = "<robot name='arm'>
 <joint name='c' type='continuous'><parent link='a'/><child link='b'/></joint>
 </robot>";
 
+// The robot of a file.
+fn robot_in(alloc: Global, text: &str) -> Result<UrdfRobot, &'static str> {
+    let tags = read_tags(alloc, text.as_bytes()).ok().ok_or("tags")?;
+    read_urdf(alloc, &tags).ok().ok_or("a robot")
+}
+
 // The robot of the arm.
 fn arm(alloc: Global) -> Result<UrdfRobot, &'static str> {
-    let tags = read_tags(alloc, ARM.as_bytes()).ok().ok_or("tags")?;
-    read_urdf(alloc, &tags).ok().ok_or("a robot")
+    robot_in(alloc, ARM)
 }
 
 // So many whole units of 1.
@@ -395,6 +400,28 @@ fn joints_are_read(rt: HostRuntime) -> Result<(), Fail> {
     assert!(rt; is_joint(&robot, 3, UrdfKind::Planar, z, None));
     assert!(rt; is_joint(&robot, 4, UrdfKind::Continuous, x, None));
     Ok(())
+}
+
+#[test]
+fn mimics_have_defaults(rt: HostRuntime) -> Result<(), Fail> {
+    let text =
+        "<robot name='r'><link name='a'/><link name='b'/><joint name='k' type='prismatic'><parent link='a'/><child link='b'/></joint><joint name='j' type='prismatic'><parent link='a'/><child link='b'/><mimic joint='k'/></joint></robot>";
+    let robot = robot_in(rt.alloc(), text)?;
+    let axis = [Iv::ONE, Iv::ZERO, Iv::ZERO];
+    let mimic = UrdfMimic {
+        master: 0,
+        multiplier: Iv::ONE,
+        offset: Iv::ZERO,
+    };
+    assert!(rt; is_joint(&robot, 1, UrdfKind::Prismatic, axis, Some(mimic)));
+    Ok(())
+}
+
+// The prefix has its colon.
+#[test]
+fn other_names_are_no_xacro(rt: HostRuntime) {
+    let text = "<robot name='r'><xacrobat/><link name='a'/></robot>";
+    assert!(rt; robot_in(rt.alloc(), text).is_ok());
 }
 
 #[test]
