@@ -1,9 +1,10 @@
 // Marks, each from after its `<`.
-ghost use Rattle.std.specs.Prelude.{◌≡◌, None, length};
+ghost use Rattle.std.specs.Prelude.{◌≡◌, ◌≢◌, None, IsSome, Err, length};
 ghost use Rattle.std.specs.Option.{option_map, option_copied, ok_or};
 ghost use Rattle.rb_tags.specs.declared.read.TagKind.TheVariants.{BadMark, Unclosed, Memory};
 ghost use Rattle.rb_tags.specs.Bytes.{quote_byte, after_first};
 ghost use Rattle.rb_tags.specs.Marks.{name_at, opening_at, quoted_at, attr_at, attr_follows, attrs_at, ending_of, start_in, end_in, tag_in, quote_after, ends_tag, closing_at, tag_at, mark_at};
+ghost use Rattle.rb_tags.specs.BadMarks.{BeginsTag};
 ghost use Rattle.rb_tags.specs.Views.{mark_of};
 ghost use Rattle.rb_result.specs.Steps.{Gives};
 
@@ -212,7 +213,8 @@ fn closing(text: &str) -> Option<usize>
 /// The tag at the front, from after its `<`, and the text after it.
 #[tactic(auto, unfolding(crate::specs::Marks::tag_at))]
 fn tag<'b>(alloc: Global, text: &'b str) -> Result<(ReadMark<'b>, &'b str), TagKind>
-    ensures { Gives Memory (λ x. (mark_of x.0, x.1.now)) result (tag_at text.now) }
+    ensures memory { result ≡ Err Memory → IsSome (closing_at None text.now) }
+    ensures gives { Gives Memory (λ x. (mark_of x.0, x.1.now)) result (tag_at text.now) }
 {
     let Some(end) = closing(text) else {
         return Err(TagKind::Unclosed);
@@ -223,16 +225,18 @@ fn tag<'b>(alloc: Global, text: &'b str) -> Result<(ReadMark<'b>, &'b str), TagK
 
 /// The text after the closing text of a mark.
 fn past_closing<'b>(closing: &str, text: &'b str) -> Result<&'b str, TagKind>
-    ensures { Gives Memory (λ rest. rest.now) result (ok_or (after_first closing.now text.now) Unclosed) }
+    ensures gives { Gives Memory (λ rest. rest.now) result (ok_or (after_first closing.now text.now) Unclosed) }
+    ensures takes_no_memory { result ≢ Err Memory }
 {
     past_first(closing, text).ok_or(TagKind::Unclosed)
 }
 
 /// The mark at the front, from after its `<`, and the text after it. A document type is `Doctype`, a mark whose closing bytes do not come
 /// `Unclosed`, and a tag that does not fit `BadMark`.
-#[tactic(auto, unfolding(crate::specs::Marks::mark_at))]
+#[tactic(auto, using(crate::proofs::Closes::not_front), unfolding(crate::specs::Marks::mark_at))]
 pub fn mark<'b>(alloc: Global, text: &'b str) -> Result<(ReadMark<'b>, &'b str), TagKind>
-    ensures { Gives Memory (λ x. (mark_of x.0, x.1.now)) result (mark_at text.now) }
+    ensures gives { Gives Memory (λ x. (mark_of x.0, x.1.now)) result (mark_at text.now) }
+    ensures memory { result ≡ Err Memory → BeginsTag text.now }
 {
     if let Some(rest) = past_front("?", text) {
         return Ok((ReadMark::Passed, past_closing("?>", rest)?));

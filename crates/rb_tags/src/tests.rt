@@ -181,7 +181,7 @@ fn not_utf8(rt: HostRuntime) {
 }
 
 // A file, and its first fault with the fault's place.
-const FAULTS: [(&str, TagKind, u64); 72] = [
+const FAULTS: [(&str, TagKind, u64); 73] = [
     ("", TagKind::Unclosed, 0),
     (" \t\r\n", TagKind::Unclosed, 4),
     ("\u{feff}", TagKind::Unclosed, 3),
@@ -252,6 +252,7 @@ const FAULTS: [(&str, TagKind, u64); 72] = [
     ("</a>", TagKind::Mismatch, 0),
     ("<a></b>", TagKind::Mismatch, 3),
     ("<a></ab>", TagKind::Mismatch, 3),
+    ("<ab></a>", TagKind::Mismatch, 4),
     ("<a></A>", TagKind::Mismatch, 3),
     ("<a/></a>", TagKind::Mismatch, 4),
     ("<a></a></a>", TagKind::Mismatch, 7),
