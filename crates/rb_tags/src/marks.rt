@@ -1,10 +1,11 @@
 // Marks, each from after its `<`.
-ghost use Rattle.std.specs.Prelude.{◌≡◌, ◌≢◌, None, IsSome, Err, length};
+ghost use Rattle.std.specs.Prelude.{◌≡◌, ◌≢◌, [], ◌∷◌, None, IsSome, Err, length, codes};
 ghost use Rattle.std.specs.Option.{option_map, option_copied, ok_or};
 ghost use Rattle.rb_tags.specs.declared.read.TagKind.TheVariants.{BadMark, Unclosed, Memory};
-ghost use Rattle.rb_tags.specs.Bytes.{quote_byte, after_first};
+ghost use Rattle.rb_tags.specs.Bytes.{is_space, is_value_byte, past, quote_byte, after_front, after_first};
 ghost use Rattle.rb_tags.specs.Marks.{name_at, opening_at, quoted_at, attr_at, attr_follows, attrs_at, ending_of, start_in, end_in, tag_in, quote_after, ends_tag, closing_at, tag_at, mark_at};
 ghost use Rattle.rb_tags.specs.BadMarks.{BeginsTag};
+ghost use Rattle.rb_tags.specs.References.{◌>?=◌};
 ghost use Rattle.rb_tags.specs.Views.{mark_of};
 ghost use Rattle.rb_result.specs.Steps.{Gives};
 
@@ -63,7 +64,8 @@ fn opening(text: &str) -> Option<(Quote, &str)>
 /// The value in quotes at the front, and the text after it.
 #[tactic(auto, unfolding(crate::specs::Marks::quoted_at))]
 fn quoted(alloc: Global, text: &str) -> Result<(Text, &str), TagKind>
-    ensures { Gives Memory (λ x. (x.0, x.1.now)) result (ok_or (quoted_at text.now) BadMark) }
+    ensures gives { Gives Memory (λ x. (x.0, x.1.now)) result (ok_or (quoted_at text.now) BadMark) }
+    ensures memory { result ≡ Err Memory → IsSome (opening_at text.now >?= λ opened. after_front (opened.0 ∷ []) (past (is_value_byte opened.0) opened.1)) }
 {
     let Some((quote, text)) = opening(text) else {
         return Err(TagKind::BadMark);
@@ -79,7 +81,8 @@ fn quoted(alloc: Global, text: &str) -> Result<(Text, &str), TagKind>
 /// The attribute at the front, and the text after it.
 #[tactic(auto, unfolding(crate::specs::Marks::attr_at))]
 fn attribute(alloc: Global, text: &str) -> Result<(Attr, &str), TagKind>
-    ensures { Gives Memory (λ x. (x.0, x.1.now)) result (ok_or (attr_at text.now) BadMark) }
+    ensures gives { Gives Memory (λ x. (x.0, x.1.now)) result (ok_or (attr_at text.now) BadMark) }
+    ensures memory { result ≡ Err Memory → IsSome (name_at text.now >?= λ name. after_front (codes "=") (past is_space name.1)) }
 {
     let Some((name, rest)) = name(text) else {
         return Err(TagKind::BadMark);
@@ -131,7 +134,8 @@ fn ending(text: &str) -> Option<bool>
 /// The start tag, from all that stands between its `<` and its `>`.
 #[tactic(auto, unfolding(crate::specs::Marks::start_in))]
 fn start_in(alloc: Global, inside: &str) -> Result<StartTag, TagKind>
-    ensures { Gives Memory (λ x. x) result (ok_or (start_in inside.now) BadMark) }
+    ensures gives { Gives Memory (λ x. x) result (ok_or (start_in inside.now) BadMark) }
+    ensures memory { result ≡ Err Memory → IsSome (name_at inside.now) }
 {
     let Some((name, rest)) = name(inside) else {
         return Err(TagKind::BadMark);
@@ -164,7 +168,8 @@ fn end_in(inside: &str) -> Option<&str>
 /// The tag, from all that stands between its `<` and its `>`.
 #[tactic(auto, unfolding(crate::specs::Marks::tag_in))]
 fn tag_in(alloc: Global, inside: &str) -> Result<ReadMark<'_>, TagKind>
-    ensures { Gives Memory mark_of result (ok_or (tag_in inside.now) BadMark) }
+    ensures gives { Gives Memory mark_of result (ok_or (tag_in inside.now) BadMark) }
+    ensures memory { result ≡ Err Memory → after_front (codes "/") inside.now ≡ None }
 {
     let Some(rest) = past_front("/", inside) else {
         return Ok(ReadMark::Start(start_in(alloc, inside)?));

@@ -1,4 +1,5 @@
 ghost use Rattle.std.specs.Prelude.{◌≡◌, IfOk, IfErr, Ok, Err, ◌⊎◌};
+ghost use Rattle.std.specs.Str.{IsUtf8};
 ghost use Rattle.rb_tags.specs.Tags.{tags_of, tags_of_text, no_memory};
 ghost use Rattle.rb_tags.specs.declared.read.TagKind.TheVariants.{Memory};
 ghost use Rattle.rb_result.specs.Steps.{Gives};
@@ -65,6 +66,7 @@ impl<T: Drop> From<AllocFailed<T>> for TagKind {
 pub fn read_tags(alloc: Global, bytes: &[u8]) -> Result<Tags, TagFault>
     ensures ok { IfOk result (λ tags. tags_of bytes.now ≡ Ok tags) }
     ensures err { IfErr result (λ fault. (fault ≡ no_memory) ⊎ (tags_of bytes.now ≡ Err fault)) }
+    ensures memory { result ≡ Err no_memory → IsUtf8 bytes.now }
 {
     match from_utf8(bytes) {
         Ok(text) => read_text(alloc, text),

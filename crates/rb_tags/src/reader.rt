@@ -3,6 +3,7 @@ ghost use Rattle.rb_tags.specs.Faults.{placed_kind, no_memory};
 ghost use Rattle.rb_tags.specs.Seen.{nothing_seen, with_tag, may_start, started, ended, with_data, marked, marked_at, read_mark, read_text, finished};
 ghost use Rattle.rb_tags.specs.Kept.{IsReadTag, IsReading, HasDistinctNames};
 ghost use Rattle.rb_tags.specs.declared.tag.TheConstants.{MAX_DEPTH, MAX_TAGS};
+ghost use Rattle.rb_tags.specs.Marks.{Mark};
 ghost use Rattle.rb_result.specs.Steps.{Gives};
 ghost use Rattle.rb_tags.specs.declared.read.TagKind.TheVariants.{Memory};
 
@@ -138,7 +139,8 @@ impl Reader {
 
     /// Takes a mark whose `<` is at a place.
     fn take(&mut self, alloc: Global, place: u64, read: ReadMark<'_>) -> Result<(), TagKind>
-        ensures { Gives Memory (λ _. seen_of self.new) result (marked (seen_of self.old) place (mark_of read.entry)) }
+        ensures gives { Gives Memory (λ _. seen_of self.new) result (marked (seen_of self.old) place (mark_of read.entry)) }
+        ensures memory { result ≡ Err Memory → (start : StartTag) × (mark_of read.entry ≡ Mark.Start start) }
     {
         match read {
             ReadMark::Passed => Ok(()),

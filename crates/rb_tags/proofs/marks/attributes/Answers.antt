@@ -8,17 +8,17 @@ pub returns-in_err-attr : goal.returns-in_err-attr
 returns-in_err-attr c =
     let follows : attr_follows c.loop-alloc.rest.now ≡ true = cc in
     let p = err_from_is_err_and c.from_residual.result c.from_residual.ensures.1 in
-    rw (p.1, p.2) (attrs_refused c.args.text.now c.loop-alloc.attrs.items c.loop-alloc.rest.now c.in_err-attr.field-0.0 c.loop-alloc.invariant.so_far follows (rw c.past.ensures at c.in_err-attr.ensures))
+    rw (p.1, p.2) (attrs_refused c.args.text.now c.loop-alloc.attrs.items c.loop-alloc.rest.now c.in_err-attr.field-0.0 c.loop-alloc.invariant.so_far follows (rw c.past.ensures at c.in_err-attr.ensures.gives))
 
 pub loop-alloc-smaller : goal.loop-alloc-smaller
 loop-alloc-smaller c =
     let follows : attr_follows c.loop-alloc.rest.now ≡ true = cc in
-    attrs_shorten c.loop-alloc.rest.now c.in_ok-attr.attr c.in_ok-attr.after.now follows (rw c.past.ensures at c.in_ok-attr.ensures)
+    attrs_shorten c.loop-alloc.rest.now c.in_ok-attr.attr c.in_ok-attr.after.now follows (rw c.past.ensures at c.in_ok-attr.ensures.gives)
 
 pub loop-alloc-preserved : goal.loop-alloc-preserved
 loop-alloc-preserved c =
     let follows : attr_follows c.loop-alloc.rest.now ≡ true = cc in
-    let so_far = attrs_go_on c.args.text.now c.loop-alloc.attrs.items c.loop-alloc.rest.now c.in_ok-attr.attr c.in_ok-attr.after.now c.loop-alloc.invariant.so_far follows (rw c.past.ensures at c.in_ok-attr.ensures) in
+    let so_far = attrs_go_on c.args.text.now c.loop-alloc.attrs.items c.loop-alloc.rest.now c.in_ok-attr.attr c.in_ok-attr.after.now c.loop-alloc.invariant.so_far follows (rw c.past.ensures at c.in_ok-attr.ensures.gives) in
     record { utf8 = search rules; so_far = rw c.in_ok-push.ensures.items so_far }
 
 pub returns : goal.returns
