@@ -63,16 +63,13 @@ short_below a b lo hi d x y h k p ex ey =
     let f : pos (a * lo / (scale * d)) ≤ℤ ceil_of (pos (b * hi)) (scale * d) = floor-le-ceil (pos (a * lo)) (pos (b * hi)) (scale * d) (omega (arith, p)) (omega (arith, ints, m)) in
     omega (arith, ints, f, ex, ey)
 
-short_step : (u : Interval) (a b d lo hi x y : ℕ) → IsSquare u → pos a ≡ u.lo → pos b ≡ u.hi → lo ≤ hi → x ≤ y → y ≤ scale
-    → x ≡ a * lo / (scale * d) → pos y ≡ ceil_of (pos (b * hi)) (scale * d) → interval (pos (scale - y)) (pos (scale - x)) ≡ step u (interval (pos lo) (pos hi)) (pos d)
+short_step : (u : Interval) (a b d lo hi x y : ℕ) → IsSquare u → pos a ≡ u.lo → pos b ≡ u.hi → lo ≤ hi
+    → x ≡ a * lo / (scale * d) → pos y ≡ ceil_of (pos (b * hi)) (scale * d) → interval (pos scale -ℤ pos y) (pos scale -ℤ pos x) ≡ step u (interval (pos lo) (pos hi)) (pos d)
 unfolding step outward products
-short_step u a b d lo hi x y h ea eb o k l ex ey =
-    ap (λ (z : ℤ). interval z (pos (scale - x))) (less y l ∙ ap (λ (z : ℤ). pos scale -ℤ z) high)
-    ∙ ap (λ (z : ℤ). interval (pos scale -ℤ ceil_of (greatest_product (u, interval (pos lo) (pos hi))) (scale * d)) z) (less x (omega (arith, k, l)) ∙ ap (λ (z : ℤ). pos scale -ℤ z) low)
+short_step u a b d lo hi x y h ea eb o ex ey =
+    ap (λ (z : ℤ). interval (pos scale -ℤ z) (pos scale -ℤ pos x)) high
+    ∙ ap (λ (z : ℤ). interval (pos scale -ℤ ceil_of (greatest_product (u, interval (pos lo) (pos hi))) (scale * d)) (pos scale -ℤ z)) low
   where
-    less : (m : ℕ) → m ≤ scale → pos (scale - m) ≡ pos scale -ℤ pos m
-    less m e = omega (arith, ints, e)
-
     low : pos x ≡ floor_of (least_product (u, interval (pos lo) (pos hi))) (scale * d)
     low = ap pos ex ∙ ap (λ (z : ℤ). floor_of z (scale * d)) (ap (λ (z : ℤ). z *ℤ pos lo) ea ∙ positive_least_above u.lo u.hi (pos lo) (pos hi) h.low h.ordered (omega (arith, ints, o)) (omega (arith, ints)))
 
@@ -80,14 +77,34 @@ short_step u a b d lo hi x y h ea eb o k l ex ey =
     high = ey ∙ ap (λ (z : ℤ). ceil_of z (scale * d)) (ap (λ (z : ℤ). z *ℤ pos hi) eb ∙ positive_greatest_above u.lo u.hi (pos lo) (pos hi) h.low h.ordered (omega (arith, ints, o)) (omega (arith, ints)))
 
 -- the turn of the loop at k
+short_turn : (s : Series) (u : Interval) (n k a b d lo hi x y : ℕ) → IsSquare u → pos a ≡ u.lo → pos b ≡ u.hi → 1 < k → k ≤ n → ShortNested s u n k lo hi
+    → d ≡ divisor s (k - 1) → x ≡ a * lo / (scale * d) → pos y ≡ ceil_of (pos (b * hi)) (scale * d) → PartlyNested s u n (k - 1) (interval (pos scale -ℤ pos y) (pos scale -ℤ pos x))
+short_turn s u n zero a b d lo hi x y h ea eb p l i ed ex ey = absurd (omega (arith, p))
+short_turn s u n (suc j) a b d lo hi x y h ea eb p l i ed ex ey =
+    let e : suc j - 1 ≡ j = omega arith in
+    subst (λ (m : ℕ). PartlyNested s u n m (interval (pos scale -ℤ pos y) (pos scale -ℤ pos x))) (sym e)
+    (nested_more s u (interval (pos lo) (pos hi)) _ n j (pos d) (omega (arith, p)) (omega (arith, l)) i.partly.value (ap pos ed ∙ ap (λ (m : ℕ). pos (divisor s m)) e)
+    (short_step u a b d lo hi x y h ea eb (short_ordered s u n (suc j) lo hi h i) ex ey))
+
 pub short_less : (s : Series) (u : Interval) (n k a b d lo hi x y : ℕ) → IsSquare u → pos a ≡ u.lo → pos b ≡ u.hi → 1 < k → k ≤ n → ShortNested s u n k lo hi
     → d ≡ divisor s (k - 1) → x ≡ a * lo / (scale * d) → pos y ≡ ceil_of (pos (b * hi)) (scale * d) → x ≤ y → y ≤ scale → ShortNested s u n (k - 1) (scale - y) (scale - x)
-short_less s u n zero a b d lo hi x y h ea eb p l i ed ex ey o k = absurd (omega (arith, p))
-short_less s u n (suc j) a b d lo hi x y h ea eb p l i ed ex ey o k =
-    let e : suc j - 1 ≡ j = omega arith in
-    subst (λ (m : ℕ). ShortNested s u n m (scale - y) (scale - x)) (sym e)
-    (record {
-      partly = nested_more s u (interval (pos lo) (pos hi)) (interval (pos (scale - y)) (pos (scale - x))) n j (pos d) (omega (arith, p)) (omega (arith, l)) i.partly.value (ap pos ed ∙ ap (λ (m : ℕ). pos (divisor s m)) e)
-          (short_step u a b d lo hi x y h ea eb (short_ordered s u n (suc j) lo hi h i) o k ex ey);
+short_less s u n k a b d lo hi x y h ea eb p l i ed ex ey o c =
+    let f : pos scale -ℤ pos y ≡ pos (scale - y) = omega (arith, ints, c) in
+    let g : pos scale -ℤ pos x ≡ pos (scale - x) = omega (arith, ints, o, c) in
+    record {
+      partly = subst (λ (v : Interval). PartlyNested s u n (k - 1) v) (ap (λ (z : ℤ). interval z (pos scale -ℤ pos x)) f ∙ ap (λ (z : ℤ). interval (pos (scale - y)) z) g)
+          (short_turn s u n k a b d lo hi x y h ea eb p l i ed ex ey);
       high = omega arith;
-    })
+    }
+
+-- the turn at k, where an end may be negative
+pub short_last : (s : Series) (u : Interval) (n k a b d lo hi x y : ℕ) → IsSquare u → pos a ≡ u.lo → pos b ≡ u.hi → 1 < k → k ≤ n → ShortNested s u n k lo hi
+    → d ≡ divisor s (k - 1) → x ≡ a * lo / (scale * d) → pos y ≡ ceil_of (pos (b * hi)) (scale * d) → x ≤ y → y < 2 ^ 64
+    → Makes (nested s u (k - 1) (n - (k - 1))) (held (pos scale -ℤ to_z w128 y)) (held (pos scale -ℤ to_z w128 x))
+short_last s u n k a b d lo hi x y h ea eb p l i ed ex ey o c =
+    let f : held (pos scale -ℤ to_z w128 y) ≡ pos scale -ℤ pos y = read (pos scale -ℤ to_z w128 y) (omega (arith, ints, c)) (omega (arith, ints, c)) in
+    let g : held (pos scale -ℤ to_z w128 x) ≡ pos scale -ℤ pos x = read (pos scale -ℤ to_z w128 x) (omega (arith, ints, o, c)) (omega (arith, ints, o, c)) in
+    record {
+      whole = record { ordered = omega (arith, ints, f, g, o); low = omega (arith, ints, f, c); high = omega (arith, ints, g) };
+      value = ap (λ (z : ℤ). interval z (held (pos scale -ℤ to_z w128 x))) f ∙ ap (λ (z : ℤ). interval (pos scale -ℤ pos y) z) g ∙ (short_turn s u n k a b d lo hi x y h ea eb p l i ed ex ey).value;
+    }

@@ -45,7 +45,7 @@ impl Series {
         }
     }
 
-    // The nested products from the last term down to one, in 64 bits, as long as no end is negative; and
+    // The nested products from the last term down to the first one with a negative end, in 64 bits; and
     // which term that is.
     #[inline(always)]
     fn short_nested(self, square: Iv, terms: u64) -> (u64, Iv)
@@ -67,7 +67,7 @@ impl Series {
             let least = part_down(low, lo, by, reciprocal);
             let greatest = part_up(high, hi, by, reciprocal);
             if (T as u64) < greatest {
-                return (k + 1, Iv::new(lo as i128, hi as i128));
+                return (k, Iv::new(T - greatest as i128, T - least as i128));
             }
             lo = T as u64 - greatest;
             hi = T as u64 - least;
