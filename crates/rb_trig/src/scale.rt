@@ -1,5 +1,5 @@
-//! Quotients by the scale of the nested products, by a product with a reciprocal and no division, and by
-//! small numbers.
+//! Quotients by the scale of the nested products, and by what their steps divide by, by products with
+//! reciprocals and no division; and by small numbers.
 ghost use Rattle.std.specs.Prelude.{◌≡◌, ◌*◌, ◌/◌, ◌<◌, ◌≤◌, ◌^◌, pos, neg_ℤ, ◌≤ℤ◌, ◌<ℤ◌, IfSome};
 ghost use Rattle.rb_num.specs.Interval.{interval};
 ghost use Rattle.rb_num.specs.Dot.{floor_of, ceil_of};

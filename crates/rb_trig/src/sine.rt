@@ -94,6 +94,7 @@ impl Series {
 }
 
 // One less the product of both, divided: a step of the nested products.
+#[inline(never)]
 fn step(square: Iv, sum: Iv, divisor: i128) -> Iv
     requires fit { ProductsFit (square, sum) }
     requires low { pos 0 <ℤ divisor }
@@ -177,6 +178,20 @@ mod tests {
         assert!(rt; matches!(wide, Ok((s, _)) if s == Iv::new(99_333_666_349, 199_667_333_175)));
         let far = sin_cos(Iv::new(8_000_000_000_000, 8_000_000_000_000));
         assert!(rt; matches!(far, Ok((s, _)) if s == Iv::new(989_358_246_623, 989_358_246_624)));
+    }
+
+    // All angles, and one whose sine and cosine are both negative.
+    #[test]
+    fn negative_values(rt: HostRuntime) {
+        let all = Iv::new(-S, S);
+        assert_eq!(rt; sin_cos(Iv::new(-ANGLE_LIMIT, ANGLE_LIMIT)), Ok((all, all)));
+        assert_eq!(rt;
+            sin_cos(Iv::new(4_000_000_000_000, 4_000_000_000_000)),
+            Ok((
+                Iv::new(-756_802_495_308, -756_802_495_307),
+                Iv::new(-653_643_620_864, -653_643_620_863)
+            ))
+        );
     }
 
     #[test]
