@@ -19,10 +19,10 @@ use Rattle.rb_trig.proofs.Read.{held, Makes}
 use Rattle.rb_trig.proofs.Sizes.{some_divisor, nested_within}
 
 -- ---- casts
-pub cast : (r : ℤ) (n : ℕ) → r ≡ pos n → n < 2 ^ 126 → nat_abs (held r) ≡ n
+cast : (r : ℤ) (n : ℕ) → r ≡ pos n → n < 2 ^ 126 → nat_abs (held r) ≡ n
 cast r n e h = ap nat_abs (read r (omega (arith, ints, e, h)) e)
 
-pub end_cast : (r y : ℤ) → r ≡ y → pos 0 ≤ℤ y → y ≤ℤ pos limit → pos (nat_abs (held r)) ≡ y
+end_cast : (r y : ℤ) → r ≡ y → pos 0 ≤ℤ y → y ≤ℤ pos limit → pos (nat_abs (held r)) ≡ y
 end_cast r (pos n) e l h = ap pos (cast r n e (omega (arith, ints, h)))
 end_cast r (negsuc n) e l h = absurd (omega (arith, ints, l))
 
@@ -57,7 +57,7 @@ short_ends s u n k lo hi h i =
     short_read (nested s u k (n - k)) lo hi
     (record { whole = record { ordered = omega (arith, ints, o); low = omega (arith, ints); high = omega (arith, ints, i.high) }; value = i.partly.value })
 
-pub short_below : (a b lo hi d x y : ℕ) → a ≤ b → lo ≤ hi → 0 < d → x ≡ a * lo / (scale * d) → pos y ≡ ceil_of (pos (b * hi)) (scale * d) → x ≤ y
+short_below : (a b lo hi d x y : ℕ) → a ≤ b → lo ≤ hi → 0 < d → x ≡ a * lo / (scale * d) → pos y ≡ ceil_of (pos (b * hi)) (scale * d) → x ≤ y
 short_below a b lo hi d x y h k p ex ey =
     let m : a * lo ≤ b * hi = mul-le a lo b hi h k in
     let f : pos (a * lo / (scale * d)) ≤ℤ ceil_of (pos (b * hi)) (scale * d) = floor-le-ceil (pos (a * lo)) (pos (b * hi)) (scale * d) (omega (arith, p)) (omega (arith, ints, m)) in
@@ -107,4 +107,27 @@ short_last s u n k a b d lo hi x y h ea eb p l i ed ex ey o c =
     record {
       whole = record { ordered = omega (arith, ints, f, g, o); low = omega (arith, ints, f, c); high = omega (arith, ints, g) };
       value = ap (λ (z : ℤ). interval z (held (pos scale -ℤ to_z w128 x))) f ∙ ap (λ (z : ℤ). interval (pos scale -ℤ pos y) z) g ∙ (short_turn s u n k a b d lo hi x y h ea eb p l i ed ex ey).value;
+    }
+
+-- ---- what the two divisions of a turn give
+pub record Turn (s : Series) (u : Interval) (k a b lo hi x y : ℕ) : Type 0 where
+  pub first : pos a ≡ u.lo
+  pub second : pos b ≡ u.hi
+  pub least : x ≡ a * lo / (scale * divisor s (k - 1))
+  pub greatest : pos y ≡ ceil_of (pos (b * hi)) (scale * divisor s (k - 1))
+  pub below : x ≤ y
+
+pub turn : (s : Series) (u : Interval) (n k lo hi d x y : ℕ) (r q : ℤ) → IsSquare u → r ≡ u.lo → q ≡ u.hi → 1 < k → ShortNested s u n k lo hi → 2 ^ 16 * d ≡ scale * divisor s (k - 1)
+    → x ≡ nat_abs (held r) * lo / (2 ^ 16 * d) → pos y ≡ ceil_of (pos (nat_abs (held q) * hi)) (2 ^ 16 * d) → Turn s u k (nat_abs (held r)) (nat_abs (held q)) lo hi x y
+turn s u n k lo hi d x y r q h er eq p i m ex ey =
+    let ea = end_cast r u.lo er h.low (omega (arith, ints, h.ordered, h.high)) in
+    let eb = end_cast q u.hi eq (omega (arith, ints, h.low, h.ordered)) (omega (arith, ints, h.high)) in
+    let fx = ex ∙ ap (λ (w : ℕ). nat_abs (held r) * lo / w) m in
+    let fy = ey ∙ ap (λ (w : ℕ). ceil_of (pos (nat_abs (held q) * hi)) w) m in
+    record {
+      first = ea;
+      second = eb;
+      least = fx;
+      greatest = fy;
+      below = short_below (nat_abs (held r)) (nat_abs (held q)) lo hi (divisor s (k - 1)) x y (omega (arith, ints, ea, eb, h.ordered)) (short_ordered s u n k lo hi h i) (some_divisor s (k - 1) (omega (arith, p))) fx fy;
     }
