@@ -3,3 +3,14 @@ pub mod Choices
 pub mod Places
 pub mod Rates
 pub mod Wider
+pub mod Equality
+pub mod OneSolution
+pub mod Linear
+pub mod Rest
+pub mod Superposed
+pub mod Powers
+pub mod VirtualWork
+pub mod Symmetric
+pub mod Forward
+pub mod Derivatives
+pub mod Rows

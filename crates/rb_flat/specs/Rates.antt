@@ -1,10 +1,11 @@
 -- The columns of a joint are the rates of its turn and its shift, as it starts from rest. Featherstone, Rigid Body Dynamics Algorithms,
 -- chapter 3. A rate goes by the rules of sum and product, with the numbers x + x' d, where the square of d is zero.
 use Rattle.std.specs.Prelude.{ℕ, ◌<◌, ◌==◌, nat_lt, if◌then◌else◌, List, [], ◌∷◌}
-use Rattle.rb_frac.specs.Ops.{Ops, V3, signs, vscale}
+use Rattle.rb_frac.specs.Ops.{Ops, V3, signs, vscale, vcross}
 use Rattle.rb_frac.specs.Frac.{Frac, Same, fracs}
-use Rattle.rb_frac.specs.Tables.{Table, Vectors, Tables, cross_table, table_scaled}
-use Rattle.rb_frac.specs.Spatial.{SineCosine}
+use Rattle.rb_frac.specs.Tables.{Table, Vectors, Tables, cross_table, table_times, table_product, table_scaled}
+use Rattle.rb_frac.specs.Spatial.{Spatial, Motion, Place, SineCosine, Motions}
+use Rattle.rb_frac.specs.Mechanics.{plus, in_body, motion_product}
 use Rattle.rb_flat.specs.Joint.{Kind, Fixed, Revolute, Continuous, Prismatic, Planar, Free, column_count, joint_column, joint_turn, joint_shift}
 
 -- a number and its rate
@@ -68,3 +69,34 @@ pub record ColumnIsRate (kind : Kind) (a : V3 Frac) (k : ℕ) (h : Frac) : Type 
 
 abbrev pub ColumnsAreRates : Type 0
 ColumnsAreRates = (kind : Kind) (a : V3 Frac) (k : ℕ) (h : Frac) → k < column_count kind → ColumnIsRate kind a k h
+
+-- ---- of a tree
+abbrev pub vector_now : {A : Type 0} → V3 (Moving A) → V3 A
+vector_now v = record { x = v.x.value; y = v.y.value; z = v.z.value }
+
+abbrev pub table_now : {A : Type 0} → Table (Moving A) → Table A
+table_now t = record { x = vector_now t.x; y = vector_now t.y; z = vector_now t.z }
+
+abbrev pub place_now : {A : Type 0} → Place (Moving A) → Place A
+place_now x = record { e = table_now x.e; r = vector_now x.r }
+
+abbrev pub spatial_now : {A : Type 0} → Spatial (Moving A) → Spatial A
+spatial_now m = record { lin = vector_now m.lin; ang = vector_now m.ang }
+
+abbrev pub spatial_rate : {A : Type 0} → Spatial (Moving A) → Spatial A
+spatial_rate m = record { lin = vector_rate m.lin; ang = vector_rate m.ang }
+
+-- the place of a body whose joint moves with (u; w): E changes by - w x E, and r so that E (a x r') is (E a) x u for each vector a
+pub record PlaceMoves (x : Place (Moving Frac)) (j : Motion Frac) : Type 0 where
+  pub turn : Tables Same (table_rate x.e) (table_scaled fracs (fracs.neg fracs.one) (table_product fracs (cross_table (signs fracs) j.ang) (table_now x.e)))
+  pub shift : (a : V3 Frac) → Vectors Same
+      (table_times fracs (table_now x.e) (vcross fracs a (vector_rate x.r)))
+      (vcross fracs (table_times fracs (table_now x.e) a) j.lin)
+
+-- where the speed of a body is that of its parent v and the motion j over its joint, its rate is the acceleration of the equations of motion
+abbrev pub AccelerationsAreRates : Type 0
+AccelerationsAreRates = (x : Place (Moving Frac)) (v j : Motion (Moving Frac)) → PlaceMoves x (spatial_now j) →
+    let speed = plus (moving fracs) (in_body (moving fracs) x v) j in
+    Motions Same
+    (spatial_rate speed)
+    (plus fracs (plus fracs (in_body fracs (place_now x) (spatial_rate v)) (spatial_rate j)) (motion_product fracs (spatial_now speed) (spatial_now j)))

@@ -1,10 +1,13 @@
-//! What is known of turns, joints and inertias, and that there is a choice.
+//! What is known of turns, joints and inertias, that there is a choice, and what is known of the
+//! equations of a tree.
 
 ghost use Rattle.rb_frac.specs.Frac.{Frac};
 ghost use Rattle.rb_frac.specs.Spatial.{SineCosine};
 ghost use Rattle.rb_flat.specs.Choice.{HasChoice, WiderKeepsChoice};
 ghost use Rattle.rb_flat.specs.Joint.{JointChoice};
-ghost use Rattle.rb_flat.specs.Rates.{ColumnsAreRates};
+ghost use Rattle.rb_flat.specs.Rates.{ColumnsAreRates, AccelerationsAreRates};
+ghost use Rattle.rb_flat.specs.TreeLaws.{InverseHasOneSolution, HasMassTable, MassTableIsSymmetric, TorqueIsLinear, ForwardHasOneSolution};
+ghost use Rattle.rb_flat.specs.TreeLaws.{VirtualWork, TorqueIsVirtualPower, RestNeedsWeight, RowsHavePower, PointAccelerationIsRate, ImpulseIsForceAtRest};
 ghost use Rattle.rb_flat.specs.Laws.{TurnKeepsAxis, QuaternionKeepsVector, TurnsAboutCoordinates, RollPitchYawInTurn, PointsInTurn, ZeroHasOnePair, NeutralFits, FixedIsUnmoved, NeutralIsUnmoved, ContinuousIsRevolute, PlanarIsFree, FreeMovesAll, InertiaAboutAxis, CongruentIsSymmetric, ParallelAxesIsSquare};
 
 /// A turn leaves its axis, and about a unit vector it is the turn about that coordinate axis. Roll
@@ -49,4 +52,38 @@ pub fn inertia_law()
 pub fn choice_law()
     ensures exists { HasChoice }
     ensures wider { WiderKeepsChoice }
+{}
+
+/// The equations of motion of a tree have exactly one solution where the accelerations of the joints
+/// are given, whatever the numbers and the forces from outside: motions are determined from the world
+/// down, and forces from the last body up. There is a mass table, which is symmetric, and the torques
+/// are the bias, which needs no accelerations of the joints, and the table times these accelerations.
+/// So where the torques are given there is exactly one solution too, if the elimination of the table
+/// meets no zero pivot.
+pub fn dynamics_law()
+    ensures inverse { InverseHasOneSolution }
+    ensures table { HasMassTable }
+    ensures symmetric { MassTableIsSymmetric }
+    ensures linear { TorqueIsLinear }
+    ensures forward { ForwardHasOneSolution }
+{}
+
+/// The equations of motion say what mechanics says elsewhere. The acceleration of a body is the rate
+/// of its speed, as its joint moves its place. A body at rest needs what bears its weight at its
+/// centre. Torques have the power of the joints' forces, with joints that follow others (virtual
+/// work), and that of what the bodies need and nothing from outside gives (d'Alembert's principle).
+pub fn mechanics_law()
+    ensures rates { AccelerationsAreRates }
+    ensures weight { RestNeedsWeight }
+    ensures work { VirtualWork }
+    ensures alembert { TorqueIsVirtualPower }
+{}
+
+/// The forces of rows of constraints have the power of each row's force at the difference of speeds
+/// that it holds. The acceleration of a point is the rate of its speed in the world. The impulse that
+/// changes a body's speed is the force that it needs for such an acceleration from rest.
+pub fn row_law()
+    ensures power { RowsHavePower }
+    ensures point { PointAccelerationIsRate }
+    ensures impulse { ImpulseIsForceAtRest }
 {}
