@@ -19,4 +19,6 @@ pub mod Series
 pub mod Zeros
 pub mod Signs
 pub mod Small
+pub mod Written
+pub mod Reciprocal
 pub mod Chosen

@@ -4,6 +4,7 @@ use Rattle.std.specs.Int.Signed.{le_z}
 use Rattle.rb_frac.specs.Frac.{Frac, Le, mul, quot, whole, fracs}
 use Rattle.rb_frac.specs.Laws.{one}
 use Rattle.rb_frac.specs.Ops.{sum}
+use Rattle.rb_num.specs.declared.terms.TheConstants.{TERMS}
 
 abbrev pub minus_one : Frac
 minus_one = whole (negsuc 0)
@@ -52,9 +53,9 @@ pub record IsBetween (x y z : Frac) : Type 0 where
   pub above : Le (lesser x y) z
   pub below : Le z (greater x y)
 
--- how many terms the one sum has; the other has one more
+-- how many terms the one sum has; the other has one more: the code's constant
 abbrev pub terms : ℕ
-terms = 24
+terms = TERMS
 
 -- s and c may be the sine and the cosine of t. They need not lie on one circle.
 pub record GoesWith (t s c : Frac) : Type 0 where

@@ -12,7 +12,7 @@ ghost use Rattle.rb_num.specs.Hull.{hull_of, meet_of, Meet, do_meet};
 ghost use Rattle.rb_num.specs.Quotient.{HasZero, floor_quotient as floor_quotient_of, quotient_of, quotients_of, least_of, QuotientFits, IsQuotientFault};
 
 use crate::narrow::{self, Narrow};
-use crate::rounding::{rounded_down, rounded_up};
+use crate::rounding::BY_GRID;
 use std::marker::Model;
 
 /// The grid: `S` units make one. Each end of an interval counts units.
@@ -191,8 +191,8 @@ fn narrow_dot(pairs: &[(Iv, Iv)]) -> Option<Iv>
         low += least;
         high += greatest;
     }
-    let lo = rounded_down(low)?;
-    let hi = rounded_up(high)?;
+    let lo = BY_GRID.rounded_down(low)?;
+    let hi = BY_GRID.rounded_up(high)?;
     Some(Iv { lo, hi })
 }
 

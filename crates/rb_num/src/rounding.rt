@@ -1,53 +1,72 @@
-//! Quotients of sums of products by `S`, where they are not large: by a product with a reciprocal, and no division.
-ghost use Rattle.std.specs.Prelude.{◌≡◌, ◌+◌, ◌*◌, ◌/◌, ◌<◌, ◌^◌, pos, neg_ℤ, ◌≤ℤ◌, IfSome};
-ghost use Rattle.rb_num.specs.Interval.{grid};
+//! Quotients by a product with a reciprocal, and no division, where they are not large.
+ghost use Rattle.std.specs.Prelude.{◌≡◌, ◌+◌, ◌-◌, ◌/◌, ◌%◌, ◌<◌, ◌≤◌, ◌^◌, pos, neg_ℤ, ◌+ℤ◌, ◌≤ℤ◌, SomeIff};
 ghost use Rattle.rb_num.specs.Dot.{floor_of, ceil_of};
+ghost use Rattle.rb_num.specs.Reciprocal.{IsReciprocal, IsNear};
 
 use crate::interval::S;
 
-// A sum is near where its quotient by `S` lies from -2^60 up to below 2^60.
+// A number is near where its quotient lies from -2^60 up to below 2^60.
 const NEAR: i128 = 1 << 60;
 
-// Added to a near sum, it gives a number from 0 up to below `END * 2^64`.
-const LIFT: i128 = S * NEAR;
-
-const END: u64 = 125_000_000_000;
-
-// `2^103 / S`, rounded down.
-const RECIPROCAL: u64 = 10_141_204_801_825_835_211;
-
-// `x / S`, rounded down. The product with the reciprocal gives it, or one less.
-#[inline]
-fn quotient(x: u128) -> u64
-    requires { x < grid * 2 ^ 61 }
-    ensures { result ≡ x / grid }
-{
-    let guess = (((x >> 37) as u64 as u128 * RECIPROCAL as u128) >> 66) as u64;
-    let rest = (x - guess as u128 * S as u128) as u64;
-    if rest < S as u64 { guess } else { guess + 1 }
+/// A number to divide by, and its reciprocal.
+#[derive(Clone, Copy, Debug)]
+pub struct Divisor {
+    /// What is divided by: at least `2^(shift + 2)`, and less than 2^63.
+    pub by: u64,
+    /// How many bits of a number are left out of the product with the reciprocal.
+    pub shift: u32,
+    /// `2^(shift + 66) / by`, rounded down.
+    pub reciprocal: u64,
+    pub ghost is_reciprocal: { IsReciprocal by shift reciprocal },
 }
 
-/// `sum / S`, rounded down: `None` where `sum` is not near.
-#[inline]
-pub(crate) fn rounded_down(sum: i128) -> Option<i128>
-    requires above { neg_ℤ (pos (2 ^ 126)) ≤ℤ sum }
-    requires below { sum ≤ℤ pos (2 ^ 126 + grid) }
-    ensures { IfSome result (λ q. q ≡ floor_of sum grid) }
-{
-    let lifted = (sum + LIFT).cast_unsigned();
-    if ((lifted >> 64) as u64) < END {
-        Some(quotient(lifted) as i128 - NEAR)
-    } else {
-        None
+/// Division by the number of units in one.
+pub(crate) const BY_GRID: Divisor = Divisor {
+    by: S as u64,
+    shift: 37,
+    reciprocal: 10_141_204_801_825_835_211,
+};
+
+impl Divisor {
+    /// `x / by`, rounded down. The product with the reciprocal gives it, or one less.
+    #[inline(always)]
+    #[tactic(auto, using(crate::proofs::Reciprocal::guess_low, crate::proofs::Reciprocal::guess_high))]
+    pub fn quotient(self, x: u128) -> u64
+        requires { x < 2 ^ (self.shift + 64) }
+        ensures { result ≡ x / self.by }
+    {
+        let guess = (((x >> self.shift) as u64 as u128 * self.reciprocal as u128) >> 66) as u64;
+        let rest = (x - guess as u128 * self.by as u128) as u64;
+        if rest < self.by { guess } else { guess + 1 }
     }
-}
 
-/// `sum / S`, rounded up: `None` where `sum + (S - 1)` is not near.
-#[inline]
-pub(crate) fn rounded_up(sum: i128) -> Option<i128>
-    requires above { neg_ℤ (pos (2 ^ 126)) ≤ℤ sum }
-    requires below { sum ≤ℤ pos (2 ^ 126) }
-    ensures { IfSome result (λ q. q ≡ ceil_of sum grid) }
-{
-    rounded_down(sum + (S - 1))
+    /// `z / by`, rounded down: `None` exactly where the quotient is below -2^60, or not below 2^60.
+    #[inline(always)]
+    pub fn rounded_down(self, z: i128) -> Option<i128>
+        requires close { self.by ≤ 2 ^ (self.shift + 3) }
+        requires even { self.by % 8 ≡ 0 }
+        requires above { neg_ℤ (pos (2 ^ 126)) ≤ℤ z }
+        requires below { z ≤ℤ pos (2 ^ 126 + 2 ^ 63) }
+        ensures { SomeIff result (IsNear self.by z) (floor_of z self.by) }
+    {
+        let lifted = (z + self.by as i128 * NEAR).cast_unsigned();
+        if ((lifted >> 64) as u64) < self.by / 8 {
+            Some(self.quotient(lifted) as i128 - NEAR)
+        } else {
+            None
+        }
+    }
+
+    /// `z / by`, rounded up: `None` exactly where the quotient of `z + (by - 1)` is below -2^60, or not
+    /// below 2^60.
+    #[inline(always)]
+    pub fn rounded_up(self, z: i128) -> Option<i128>
+        requires close { self.by ≤ 2 ^ (self.shift + 3) }
+        requires even { self.by % 8 ≡ 0 }
+        requires above { neg_ℤ (pos (2 ^ 126)) ≤ℤ z }
+        requires below { z ≤ℤ pos (2 ^ 126) }
+        ensures { SomeIff result (IsNear self.by (z +ℤ pos (self.by - 1))) (ceil_of z self.by) }
+    {
+        self.rounded_down(z + (self.by as i128 - 1))
+    }
 }

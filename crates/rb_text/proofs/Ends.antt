@@ -1,5 +1,5 @@
 -- The text of an end, and the number that it says.
-use Rattle.std.proofs.Common.{◌≡◌, ℕ, zero, suc, ◌+◌, ◌-◌, ◌*◌, ◌/◌, ◌%◌, ◌^◌, ◌<◌, ◌≤◌, ℤ, pos, negsuc, neg_ℤ, ◌*ℤ◌, true, false, List, [], ◌∷◌, ◌++◌, length, drop, take, inl, inr, refl, sym, ap, ◌∙◌, subst, arith, length-append, append_assoc}
+use Rattle.std.proofs.Common.{◌≡◌, ℕ, zero, suc, ◌+◌, ◌-◌, ◌*◌, ◌/◌, ◌%◌, ◌^◌, ◌<◌, ◌≤◌, ℤ, pos, negsuc, neg_ℤ, ◌*ℤ◌, Bool, true, false, List, [], ◌∷◌, ◌++◌, length, drop, take, inl, inr, refl, sym, ap, ◌∙◌, subst, arith, length-append, append_assoc}
 use Rattle.std.specs.Prelude.{replicate, decimal}
 use Rattle.std.specs.Int.RustNames.{unsigned_abs}
 use Rattle.std.specs.List.{AllPass, list_all, list_any}
@@ -14,7 +14,8 @@ use mir.Syntax.{w128}
 use mir.Val.{SFits, to_z, of_z}
 use Rattle.std.proofs.lemmas.Bool.{and_from, le-leb}
 use Rattle.rb_num.specs.Interval.{Interval, IsInterval, grid, limit, IsWithin}
-use Rattle.rb_text.specs.Print.{part_text, end_text, iv_text, minus_text, is_negative, Says}
+use Rattle.rb_num.specs.Text.{part_text, end_text, iv_text, minus_text}
+use Rattle.rb_text.specs.Print.{Says}
 use Rattle.rb_text.specs.Decimal.{Decimal, IsPlainDecimal, IsDecimal, IsSign, is_blank, signed_by, numerator_of, denominator_of, exact_value}
 use Rattle.rb_text.proofs.Digits.{digits_value-append, is_other, none_other}
 
@@ -126,6 +127,10 @@ part_says n h =
     let none = none_other (replicate k 48) (zeros_say k) in
     digits_value-append (replicate k 48) (decimal n) ∙ ap (λ (x : ℕ). x * 10 ^ length (decimal n) + digits_value 10 (decimal n)) none
     ∙ (let e = (decimal_is_IsNumeral_wide n wide).1 in omega arith)
+
+abbrev is_negative : ℤ → Bool
+is_negative (pos n) = false
+is_negative (negsuc n) = true
 
 -- the sign, the whole part and the part behind the point
 abbrev decimal_at : ℤ → Decimal

@@ -1,16 +1,19 @@
-ghost use Rattle.std.specs.Prelude.{◌≡◌, None, ◌≤◌, ◌*◌, ◌↔◌, IfOk, pos, neg_ℤ, if◌then◌else◌};
+ghost use Rattle.std.specs.Prelude.{◌≡◌, None, Some, ◌≤◌, ◌*◌, ◌↔◌, IfOk, pos, neg_ℤ, if◌then◌else◌};
 ghost use Rattle.std.specs.List.{AllPass};
 ghost use Rattle.std.specs.Char.{is_ascii_digit};
 ghost use Rattle.rb_num.specs.Interval.{interval, grid};
 ghost use Rattle.rb_text.specs.Decimal.{decimal_from, exact_value, decimal_of, lower_of, upper_of};
 ghost use Rattle.rb_text.specs.Range.{range_of};
 ghost use Rattle.rb_text.specs.Bracket.{bracket_of, bracket_of_number, bracket_of_value, between as between_of, IsBracket, IsNumber, IsLargeNumber, IsBackwards};
+ghost use Rattle.rb_text.specs.Print.{fault_text};
 ghost use Rattle.rb_text.specs.declared.size.TheConstants.{LARGEST};
 
 use crate::decimal::{Decimal, read_decimal, read_lower, read_upper};
 use crate::range::split;
 use crate::size::size_of;
 use rb_num::Iv;
+use std::error::Error;
+use std::fmt;
 
 /// Why a text has no bracket.
 #[derive(Clone, Copy, Debug, PartialEq, Eq)]
@@ -22,6 +25,29 @@ pub enum TextFault {
     /// An end of the first number's bracket is above that of the second's.
     Backwards,
 }
+
+impl TextFault {
+    /// The fault's name.
+    pub fn word(self) -> &'static str
+        ensures { result.now ≡ fault_text self }
+    {
+        match self {
+            TextFault::NotNumber => "NotNumber",
+            TextFault::TooLarge => "TooLarge",
+            TextFault::Backwards => "Backwards",
+        }
+    }
+}
+
+impl fmt::Display for TextFault {
+    ghost output = { λ fault. Some (fault_text fault) };
+
+    fn fmt<W: fmt::Write>(&self, f: &mut fmt::Formatter<W>) -> fmt::Result {
+        f.write_str(self.word())
+    }
+}
+
+impl Error for TextFault {}
 
 // The interval of the numbers of these sizes.
 fn signed(negative: bool, low: u128, high: u128) -> Iv

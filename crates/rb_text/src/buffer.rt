@@ -1,6 +1,7 @@
 ghost use Rattle.std.specs.Prelude.{◌≡◌, ◌≤◌, ◌<◌, ◌-◌, ◌+◌, ◌/◌, ◌%◌, [], ◌++◌, length, IfOk};
 ghost use Rattle.rb_num.specs.Interval.{IsWithin, grid};
-ghost use Rattle.rb_text.specs.Print.{part_text, minus_text, end_text, iv_text, Says};
+ghost use Rattle.rb_num.specs.Text.{part_text, minus_text, end_text, iv_text};
+ghost use Rattle.rb_text.specs.Print.{Says};
 
 use crate::size::UNITS;
 use itoa::Buffer;
@@ -88,7 +89,7 @@ impl Out {
     }
 
     // Puts twelve digits.
-    #[tactic(auto, unfolding(crate::specs::Print::part_text))]
+    #[tactic(auto, unfolding(rb_num::specs::Text::part_text))]
     fn put_part(&mut self, units: u64)
         requires digits { units < grid }
         requires room { 12 ≤ self.old.spare }
@@ -115,7 +116,7 @@ impl Out {
     }
 
     // Puts an end: a minus where it is negative, the whole part, a point and twelve digits.
-    #[tactic(auto, unfolding(crate::specs::Print::end_text))]
+    #[tactic(auto, unfolding(rb_num::specs::Text::end_text))]
     fn put_end(&mut self, end: i128)
         requires within { IsWithin end }
         requires room { 39 ≤ self.old.spare }
@@ -133,7 +134,7 @@ impl Out {
     }
 
     /// Puts an interval: its lower end, two points, its upper end.
-    #[tactic(auto, unfolding(crate::specs::Print::iv_text))]
+    #[tactic(auto, unfolding(rb_num::specs::Text::iv_text))]
     pub fn put_iv(&mut self, iv: Iv)
         requires { 80 ≤ self.old.spare }
         ensures bytes { self.new.bytes ≡ self.old.bytes ++ iv_text iv }

@@ -1,5 +1,5 @@
 -- The factor that makes an axis one unit long: one divided by the root of the squared length, rounded outwards.
-use Rattle.std.specs.Prelude.{ℕ, zero, suc, ◌+◌, ◌*◌, nat_le, unsigned_abs, ℤ, pos, ◌+ℤ◌, ◌*ℤ◌, ◌<ℤ◌, ◌≤ℤ◌, ◌&&◌, Bool, cond, Result, Ok, Err}
+use Rattle.std.specs.Prelude.{ℕ, zero, suc, ◌+◌, ◌*◌, nat_le, unsigned_abs, ℤ, pos, ◌+ℤ◌, ◌*ℤ◌, ◌<ℤ◌, ◌≤ℤ◌, ◌&&◌, Bool, cond, List, codes, Result, Ok, Err}
 use Rattle.rb_frac.specs.Frac.{Frac, Le, add, mul, whole}
 use Rattle.rb_num.specs.Interval.{Interval, interval, grid, limit}
 use Rattle.rb_num.specs.Fraction.{LiesIn}
@@ -50,6 +50,11 @@ squares_fit v = is_within (v.lo *ℤ v.lo) && is_within (v.hi *ℤ v.hi)
 unfoldable pub unit_scale_of : Interval → Interval → Interval → Result Interval AxisFault
 unit_scale_of x y z =
     cond (squares_fit x && squares_fit y && squares_fit z) (cond (has_zero (squared_length x y z)) (Err ZeroAxis) (Ok (factor (squared_length x y z)))) (Err Size)
+
+-- the fault's name
+abbrev pub fault_text : AxisFault → List ℕ
+fault_text Size = codes "Size"
+fault_text ZeroAxis = codes "ZeroAxis"
 
 -- ---- what the factor is for
 abbrev pub square_sum : Frac → Frac → Frac → Frac

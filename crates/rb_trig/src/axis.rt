@@ -1,11 +1,13 @@
-ghost use Rattle.std.specs.Prelude.{◌≡◌, ◌*◌, ℤ, pos, ◌<ℤ◌, ◌≤ℤ◌, ◌*ℤ◌, IsTrue, ◌↔◌, IfOk, Err};
+ghost use Rattle.std.specs.Prelude.{◌≡◌, ◌*◌, ℤ, pos, ◌<ℤ◌, ◌≤ℤ◌, ◌*ℤ◌, IsTrue, ◌↔◌, IfOk, Some, Err};
 ghost use Rattle.rb_num.specs.Interval.{IsWithin, interval, limit};
 ghost use Rattle.rb_num.specs.Quotient.{HasZero};
 ghost use Rattle.rb_trig.specs.Ends.{SquaresFit};
-ghost use Rattle.rb_trig.specs.Axis.{floor_root as floor_root_of, ceil_root as ceil_root_of, factor as factor_of, IsLength, AxisFits, squared_length as squared_length_of, unit_scale_of, MakesUnit};
+ghost use Rattle.rb_trig.specs.Axis.{floor_root as floor_root_of, ceil_root as ceil_root_of, factor as factor_of, IsLength, AxisFits, squared_length as squared_length_of, unit_scale_of, MakesUnit, fault_text};
 
 use crate::ends::squares;
 use rb_num::{B, Iv, S};
+use std::error::Error;
+use std::fmt;
 
 /// Why an axis has no factor.
 #[derive(Clone, Copy, Debug, PartialEq, Eq)]
@@ -15,6 +17,28 @@ pub enum AxisFault {
     /// The axis may be zero.
     ZeroAxis,
 }
+
+impl AxisFault {
+    /// The fault's name.
+    pub fn word(self) -> &'static str
+        ensures { result.now ≡ fault_text self }
+    {
+        match self {
+            AxisFault::Size => "Size",
+            AxisFault::ZeroAxis => "ZeroAxis",
+        }
+    }
+}
+
+impl fmt::Display for AxisFault {
+    ghost output = { λ fault. Some (fault_text fault) };
+
+    fn fmt<W: fmt::Write>(&self, f: &mut fmt::Formatter<W>) -> fmt::Result {
+        f.write_str(self.word())
+    }
+}
+
+impl Error for AxisFault {}
 
 // Whether the square is within the limit.
 fn square_fits(end: i128) -> bool

@@ -1,15 +1,16 @@
-//! What the steps of the nested products divide by, and the reciprocals of it, for the first 24 terms.
+//! What the steps of the nested products divide by, and the reciprocals of it, for the first `TERMS` terms.
 ghost use Rattle.std.specs.Prelude.{◌≡◌, ◌*◌, ◌/◌, ◌≤◌, ◌^◌};
 ghost use Rattle.rb_trig.specs.Sine.{scale, divisor};
 
 use crate::sine::Series;
+use rb_num::TERMS;
 
 // `T * divisor / 2^16` for the term `k` of the sine, and `2^101` divided by it, rounded down.
 #[inline]
 #[tactic(auto, unfolding(crate::specs::Sine::divisor))]
 fn sine_divider(k: u64) -> (u64, u64)
     requires low { 1 ≤ k }
-    requires high { k ≤ 24 }
+    requires high { k ≤ TERMS }
     ensures divisor { 2 ^ 16 * result.0 ≡ scale * divisor Series.Sine k }
     ensures reciprocal { result.1 ≡ 2 ^ 101 / result.0 }
 {
@@ -47,7 +48,7 @@ fn sine_divider(k: u64) -> (u64, u64)
 #[tactic(auto, unfolding(crate::specs::Sine::divisor))]
 fn cosine_divider(k: u64) -> (u64, u64)
     requires low { 1 ≤ k }
-    requires high { k ≤ 24 }
+    requires high { k ≤ TERMS }
     ensures divisor { 2 ^ 16 * result.0 ≡ scale * divisor Series.Cosine k }
     ensures reciprocal { result.1 ≡ 2 ^ 101 / result.0 }
 {
@@ -84,7 +85,7 @@ fn cosine_divider(k: u64) -> (u64, u64)
 #[inline]
 pub fn divider(series: Series, k: u64) -> (u64, u64)
     requires low { 1 ≤ k }
-    requires high { k ≤ 24 }
+    requires high { k ≤ TERMS }
     ensures divisor { 2 ^ 16 * result.0 ≡ scale * divisor series k }
     ensures reciprocal { result.1 ≡ 2 ^ 101 / result.0 }
 {

@@ -1,11 +1,13 @@
-ghost use Rattle.std.specs.Prelude.{◌≡◌, ℕ, ℤ, pos, ◌-◌, ◌≤◌, ◌^◌, ◌<◌, ◌<ℤ◌, ◌↔◌, IfOk, IsErr};
+ghost use Rattle.std.specs.Prelude.{◌≡◌, ℕ, ℤ, Some, codes, pos, ◌-◌, ◌≤◌, ◌^◌, ◌<◌, ◌<ℤ◌, ◌↔◌, IfOk, IsErr};
 ghost use Rattle.rb_num.specs.Dot.{ProductsFit};
 ghost use Rattle.rb_trig.specs.Sine.{divisor as divisor_of, nested as nested_of, step as step_of, square_of, IsSquare, IsAngle, sines, cosines, sin_cos_of, Encloses};
 
 use crate::dividers::divider;
 use crate::ends::{clamp, outward, products, squares};
 use crate::scale::{outward_by_scale, outward_by_small, part_down, part_up};
-use rb_num::{Iv, S};
+use rb_num::{Iv, S, TERMS};
+use std::error::Error;
+use std::fmt;
 
 /// The largest size of an angle, in units: eight radians.
 pub const ANGLE_LIMIT: i128 = 8 * S;
@@ -13,15 +15,22 @@ pub const ANGLE_LIMIT: i128 = 8 * S;
 /// The nested products count parts of one in this number.
 pub const T: i128 = 10_000_000_000_000_000;
 
-// How many terms the shorter sum has.
-const TERMS: u64 = 24;
-
 // The greatest number of terms that are summed in 64 bits.
-const SHORT_TERMS: u64 = 25;
+const SHORT_TERMS: u64 = TERMS + 1;
 
 /// An end of the angle is larger in size than `ANGLE_LIMIT`.
 #[derive(Clone, Copy, Debug, PartialEq, Eq)]
 pub struct AngleRange;
+
+impl fmt::Display for AngleRange {
+    ghost output = { λ _. Some (codes "AngleRange") };
+
+    fn fmt<W: fmt::Write>(&self, f: &mut fmt::Formatter<W>) -> fmt::Result {
+        f.write_str("AngleRange")
+    }
+}
+
+impl Error for AngleRange {}
 
 // The series of the sine and that of the cosine.
 #[derive(Clone, Copy)]
