@@ -1,5 +1,5 @@
 -- What inputs and sinks tell of their calls: counts, and what was given of the open name.
-use Rattle.std.specs.Prelude.{◌≡◌, ℕ, List, ◌++◌, ◌+◌, ◌-◌, ◌^◌, ◌≤◌, length, take, drop, min, OnOk, OnErr, Result}
+use Rattle.std.specs.Prelude.{◌≡◌, ℕ, List, ◌++◌, ◌+◌, ◌-◌, ◌^◌, ◌≤◌, length, take, drop, min, codes, OnOk, OnErr, Result}
 use Rattle.std.proofs.Common.{sym, ap}
 use Rattle.std.proofs.lemmas.List.{take-append-drop, length-take-le}
 
@@ -16,6 +16,10 @@ pub record HasCause {T E : Type 0} (before now : ℕ) (result : Result T E) : Ty
   pub later : before ≤ now
   pub failed : OnErr result (Rose before now)
   pub kept : OnOk result (now ≡ before)
+
+-- the word of a call that failed
+abbrev pub failed_word : List ℕ
+failed_word = codes "Failed"
 
 -- what was given of the open name and what is left of it make up the whole
 pub record MakesUp (whole : List ℕ) (given : ℕ) (left : List ℕ) : Type 0 where

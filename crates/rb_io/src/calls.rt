@@ -1,10 +1,12 @@
 // Names read whole, and pieces put whole.
-ghost use Rattle.std.specs.Prelude.{◌≡◌, ◌≤◌, ◌<◌, ℕ, List, [], ◌++◌, IsTrue, length, IfOk, OnOk, IsErrOf};
+ghost use Rattle.std.specs.Prelude.{◌≡◌, ◌≤◌, ◌<◌, ℕ, List, [], ◌++◌, IsTrue, length, Some, IfOk, OnOk, IsErrOf};
 ghost use Rattle.rb_io.specs.Outside.{HasCause, Rose};
-ghost use Rattle.rb_io.specs.Calls.{PutsPart};
+ghost use Rattle.rb_io.specs.Calls.{PutsPart, fault_word};
 
 use crate::{Failed, Inputs, Sink};
 use std::alloc::{AllocError, AllocFailed, Global};
+use std::error::Error;
+use std::fmt;
 use std::marker::Model;
 
 /// How many bytes are asked for in one call.
@@ -43,6 +45,29 @@ pub enum FileFault {
     /// Memory was not found.
     Memory,
 }
+
+impl FileFault {
+    /// Its word.
+    pub fn word(self) -> &'static str
+        ensures { result.now ≡ fault_word self }
+    {
+        match self {
+            FileFault::Failed => Failed.word(),
+            FileFault::TooLong => "TooLong",
+            FileFault::Memory => "Memory",
+        }
+    }
+}
+
+impl fmt::Display for FileFault {
+    ghost output = { λ fault. Some (fault_word fault) };
+
+    fn fmt<W: fmt::Write>(&self, f: &mut fmt::Formatter<W>) -> fmt::Result {
+        f.write_str(self.word())
+    }
+}
+
+impl Error for FileFault {}
 
 /// Opens a name and reads it whole, where it holds at most `limit` bytes. It is open afterwards, with
 /// nothing left. After a refusal some of its bytes may have been taken, and no other name is open.

@@ -1,10 +1,32 @@
 // What is read from and written to. The bytes may be untold; the counts are always told.
-ghost use Rattle.std.specs.Prelude.{◌≡◌, ◌≤◌, ◌<◌, ℕ, List, [], ◌++◌, Bool, false, IsTrue, length, take, IfOk, OnOk, OnErr, MatchResult};
-ghost use Rattle.rb_io.specs.Outside.{HasCause, MakesUp, counted};
+ghost use Rattle.std.specs.Prelude.{◌≡◌, ◌≤◌, ◌<◌, ℕ, List, [], ◌++◌, Bool, false, IsTrue, length, take, Some, IfOk, OnOk, OnErr, MatchResult};
+ghost use Rattle.rb_io.specs.Outside.{HasCause, MakesUp, counted, failed_word};
+
+use std::error::Error;
+use std::fmt;
 
 /// A call failed, and the object's count of faults rose.
 #[derive(Clone, Copy, Debug, PartialEq, Eq)]
 pub struct Failed;
+
+impl Failed {
+    /// Its word.
+    pub fn word(self) -> &'static str
+        ensures { result.now ≡ failed_word }
+    {
+        "Failed"
+    }
+}
+
+impl fmt::Display for Failed {
+    ghost output = { λ _. Some failed_word };
+
+    fn fmt<W: fmt::Write>(&self, f: &mut fmt::Formatter<W>) -> fmt::Result {
+        f.write_str(self.word())
+    }
+}
+
+impl Error for Failed {}
 
 /// Named inputs, one of which may be open. Before the first `open` none is.
 pub trait Inputs {

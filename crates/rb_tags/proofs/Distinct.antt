@@ -1,34 +1,35 @@
 -- Names of attributes that were read from the last to the first.
-use Rattle.std.proofs.Common.{Ordering, ◌≡◌, ◌≢◌, ℕ, suc, map, ◌+◌, ◌-◌, ◌<◌, get_or, take, Bool, true, false, cond, not, ◌&&◌, ◌||◌, List, [], ◌∷◌, ◌++◌, length, refl, sym, ap, ◌∙◌, append_assoc, arith}
+use Rattle.std.proofs.Common.{Ordering, ◌≡◌, ◌≢◌, ℕ, suc, map, ◌+◌, ◌-◌, ◌<◌, ◌≤◌, get_or, take, Bool, true, false, cond, not, ◌&&◌, ◌||◌, ◌==◌, List, [], ◌∷◌, ◌++◌, length, refl, sym, ap, ◌∙◌, append_assoc, add-one, arith}
 use Rattle.std.proofs.lemmas.List.{append-nil, take_more, take_all, length-map, get_or-map}
-use Rattle.std.proofs.lemmas.Bool.{and_parts}
+use Rattle.std.proofs.lemmas.Bool.{and_parts, ne_eqb}
+use Rattle.std.proofs.Math.Dec.{eqb-suc-suc}
 use Rattle.std.proofs.lemmas.Slice.Eq.{bytes_eq-Decides}
 use Rattle.std.proofs.lemmas.List.Kept.{AllPairs-cons}
 use Rattle.std.proofs.lemmas.List.Elements.{All-from_recursion, All-head, All-tail}
 use Rattle.std.specs.List.{AllByRecursion, All, AllPairs}
 use Rattle.rb_tags.specs.Grammar.{WrittenAttr, attr_of}
 use Rattle.rb_tags.specs.Kept.{HasDistinctNames}
-use Rattle.std.specs.BTreeSet.{BTreeSet, IsEmpty, contains, Updates}
+use Rattle.std.specs.BTreeSet.{BTreeSet, IsEmpty, contains, Updates, btree_set_len}
 use Rattle.std.specs.Cmp.Lexicographic.{slice_cmp}
 use Rattle.std.specs.Ordering.{nat_cmp}
 use Rattle.std.proofs.lemmas.Map.Text.{is_eq-slice_cmp}
 use Rattle.std.specs.Str.{bytes_eq}
 use denote.Ref.{Bor}
 use Rattle.rb_tags.specs.declared.tag.Attr.{Attr}
-use Rattle.rb_tags.specs.Seen.{has_name, are_distinct}
+use Rattle.rb_tags.specs.Seen.{has_name, are_distinct, name_count}
 
 abbrev pub text_order : Bor (List ℕ) → Bor (List ℕ) → Ordering
 text_order x y = slice_cmp nat_cmp x.now y.now
 
--- the attributes behind the rest have different names, and these are the names of the set
+-- the names of the set are those of the attributes behind the rest
 pub record NamesSoFar (attrs rest : List Attr) (names : BTreeSet (Bor (List ℕ))) : Type 0 where
   pub seen : List Attr
   pub parts : attrs ≡ rest ++ seen
-  pub distinct : are_distinct seen ≡ true
+  pub count : btree_set_len names ≡ name_count seen
   pub has : (q : Bor (List ℕ)) → contains text_order names q ≡ has_name q.now seen
 
-pub names_begin : (attrs : List Attr) (names : BTreeSet (Bor (List ℕ))) → IsEmpty names → NamesSoFar attrs attrs names
-names_begin attrs names none = record { seen = []; parts = sym (append-nil attrs); distinct = refl; has = λ q. rw none refl }
+pub names_begin : (attrs : List Attr) (names : BTreeSet (Bor (List ℕ))) → IsEmpty names → btree_set_len names ≡ 0 → NamesSoFar attrs attrs names
+names_begin attrs names none count = record { seen = []; parts = sym (append-nil attrs); count = count; has = λ q. rw none refl }
 
 last_split : (rest : List Attr) (a : Attr) → 0 < length rest → a ≡ get_or rest (length rest - 1) a → rest ≡ take (length rest - 1) rest ++ a ∷ []
 last_split rest a some is =
@@ -44,34 +45,42 @@ either : (b c : Bool) → cond b true c ≡ (b || c)
 either true c = refl
 either false c = refl
 
-distinct_more : (a : Attr) (seen : List Attr) → has_name a.name seen ≡ false → are_distinct seen ≡ true → are_distinct (a ∷ seen) ≡ true
-distinct_more a seen none others = rw (none, others) refl
+if_new : (there added : Bool) → added ≡ not there → cond {A = ℕ} added 1 0 ≡ cond {A = ℕ} there 0 1
+if_new true true e = absurd cc
+if_new true false e = refl
+if_new false true e = refl
+if_new false false e = absurd cc
 
-distinct_less : (a : Attr) (seen : List Attr) → has_name a.name seen ≡ true → are_distinct (a ∷ seen) ≡ false
-distinct_less a seen one = rw one refl
-
-distinct_end : (front attrs : List Attr) → are_distinct attrs ≡ false → are_distinct (front ++ attrs) ≡ false
-distinct_end [] attrs h = h
-distinct_end (a ∷ front) attrs h = rw (distinct_end front attrs h) (by_test (has_name a.name (front ++ attrs)))
-  where
-    by_test : (b : Bool) → (not b && false) ≡ false
-    by_test true = refl
-    by_test false = refl
-
-pub names_more : (attrs rest : List Attr) (a : Attr) (names now : BTreeSet (Bor (List ℕ))) (name : Bor (List ℕ)) → NamesSoFar attrs rest names → 0 < length rest → a ≡ get_or rest (length rest - 1) a → name.now ≡ a.name → contains text_order names name ≡ false → Updates text_order names now name true → NamesSoFar attrs (take (length rest - 1) rest) now
-names_more attrs rest a names now name h some last is new updates =
-    let none : has_name a.name h.seen ≡ false = ap (λ (t : List ℕ). has_name t h.seen) (sym is) ∙ sym (h.has name) ∙ new in
+pub names_more : (attrs rest : List Attr) (a : Attr) (names now : BTreeSet (Bor (List ℕ))) (name : Bor (List ℕ)) (added : Bool) → NamesSoFar attrs rest names → 0 < length rest → a ≡ get_or rest (length rest - 1) a → name.now ≡ a.name → added ≡ not (contains text_order names name) → btree_set_len now ≡ btree_set_len names + cond added 1 0 → Updates text_order names now name true → NamesSoFar attrs (take (length rest - 1) rest) now
+names_more attrs rest a names now name added h some last is new count updates =
+    let there : contains text_order names name ≡ has_name a.name h.seen = h.has name ∙ ap (λ (t : List ℕ). has_name t h.seen) is in
     record {
       seen = a ∷ h.seen;
       parts = regroup attrs rest (take (length rest - 1) rest) h.seen a h.parts (last_split rest a some last);
-      distinct = distinct_more a h.seen none h.distinct;
+      count = count ∙ ap (λ (n : ℕ). n + cond added 1 0) h.count ∙ ap (λ (n : ℕ). name_count h.seen + n) (if_new (contains text_order names name) added new ∙ ap (λ (b : Bool). cond b 0 1) there);
       has = λ q. updates.0 q ∙ ap (λ (b : Bool). cond b true (contains text_order names q)) (is_eq-slice_cmp name.now q.now) ∙ either (bytes_eq name.now q.now) (contains text_order names q) ∙ ap (λ (b : Bool). bytes_eq name.now q.now || b) (h.has q) ∙ ap (λ (t : List ℕ). bytes_eq t q.now || has_name q.now h.seen) is;
     }
 
-pub names_clash : (attrs rest : List Attr) (a : Attr) (names : BTreeSet (Bor (List ℕ))) (name : Bor (List ℕ)) → NamesSoFar attrs rest names → 0 < length rest → a ≡ get_or rest (length rest - 1) a → name.now ≡ a.name → contains text_order names name ≡ true → are_distinct attrs ≡ false
-names_clash attrs rest a names name h some last is there =
-    let one : has_name a.name h.seen ≡ true = ap (λ (t : List ℕ). has_name t h.seen) (sym is) ∙ sym (h.has name) ∙ there in
-    ap are_distinct (regroup attrs rest (take (length rest - 1) rest) h.seen a h.parts (last_split rest a some last)) ∙ distinct_end (take (length rest - 1) rest) (a ∷ h.seen) (distinct_less a h.seen one)
+pub names_all : (attrs rest : List Attr) (names : BTreeSet (Bor (List ℕ))) → NamesSoFar attrs rest names → length rest ≡ 0 → btree_set_len names ≡ name_count attrs
+names_all attrs [] names h none = h.count ∙ ap name_count (sym h.parts)
+names_all attrs (a ∷ rest) names h none = absurd (omega arith)
+
+few_names : (attrs : List Attr) → name_count attrs ≤ length attrs
+few_names [] = omega arith
+few_names (a ∷ attrs) = by_test (has_name a.name attrs) (few_names attrs)
+  where
+    by_test : (b : Bool) → name_count attrs ≤ length attrs → name_count attrs + cond b 0 1 ≤ suc (length attrs)
+    by_test true h = omega arith
+    by_test false h = omega arith
+
+-- names differ where there are as many as attributes
+pub distinct_by_count : (attrs : List Attr) → (name_count attrs == length attrs) ≡ are_distinct attrs
+distinct_by_count [] = refl
+distinct_by_count (a ∷ attrs) = by_test (has_name a.name attrs) (name_count attrs) (length attrs) (few_names attrs) ∙ ap (λ (b : Bool). not (has_name a.name attrs) && b) (distinct_by_count attrs)
+  where
+    by_test : (b : Bool) (n m : ℕ) → n ≤ m → (n + cond b 0 1 == suc m) ≡ (not b && (n == m))
+    by_test true n m h = ne_eqb _ _ (λ e. omega arith)
+    by_test false n m h = rw (add-one, eqb-suc-suc n m) refl
 
 no_name : (name : List ℕ) (attrs : List Attr) → has_name name attrs ≡ false → AllByRecursion (λ a. name ≢ a.name) attrs
 no_name name [] h = tt

@@ -1,7 +1,7 @@
 -- Reading a value from the front, one reference after another.
-use Rattle.std.proofs.Common.{◌≡◌, ℕ, zero, suc, ◌+◌, ◌<◌, ◌≤◌, Bool, true, false, not, List, [], ◌∷◌, ◌++◌, length, drop, get_or, Option, Some, None, Result, Ok, Err, inr, MatchOption, lit<, refl, sym, ap, subst, ◌∙◌, arith, append_assoc, ◌==◌}
+use Rattle.std.proofs.Common.{◌≡◌, ℕ, zero, suc, ◌+◌, ◌<◌, ◌≤◌, Bool, true, false, not, List, [], ◌∷◌, ◌++◌, length, drop, get_or, Option, Some, None, IsSome, MatchOption, lit<, refl, sym, ap, subst, ◌∙◌, arith, append_assoc, ◌==◌}
 use Rattle.std.specs.List.{take_while, position_or_len, before_first, after_first}
-use Rattle.std.specs.Option.{option_map, ok_or}
+use Rattle.std.specs.Option.{option_map, is_some}
 use Rattle.std.specs.Char.{encode_utf8}
 use denote.Ref.{Bor}
 use Rattle.std.proofs.lemmas.Str.Pattern.{IsSplitOnceResult, split_once_first}
@@ -9,12 +9,9 @@ use Rattle.std.proofs.lemmas.List.{length-append}
 use Rattle.std.proofs.lemmas.Bool.{eqb-true}
 use Rattle.std.proofs.Math.Seq.{drop-length, drop-cons}
 use Rattle.std.proofs.lemmas.List.Sums.{prefix_len_stops}
-use Rattle.rb_tags.specs.declared.read.TagKind.{TagKind}
-use Rattle.rb_tags.specs.declared.read.TagKind.TheVariants.{BadMark, Memory}
 use Rattle.rb_tags.specs.Bytes.{is_plain_byte, is_reference_byte, past, after_front, if_more}
 use Rattle.rb_tags.specs.References.{◌>?=◌, reference_of, reference_at, value_within, value_of}
 use Rattle.rb_tags.proofs.Steps.{bind_some, run_split, front_of_one}
-use Rattle.rb_result.specs.Steps.{Gives}
 
 -- a reference as it is read, from after its &
 pub record TakesReference (bytes : List ℕ) (read : List ℕ × List ℕ) : Type 0 where
@@ -133,15 +130,24 @@ reads_reference r bytes character after e is = sym e ∙ ap (λ (o : Option (ℕ
 pub reads_none : (r : Option (ℕ × Bor (List ℕ))) (bytes : List ℕ) → option_map (λ x. (encode_utf8 x.0, x.1.now)) r ≡ reference_at bytes → r ≡ None → reference_at bytes ≡ None
 reads_none r bytes e is = sym e ∙ ap (λ (o : Option (ℕ × Bor (List ℕ))). option_map (λ x. (encode_utf8 x.0, x.1.now)) o) is
 
-pub gives_refused : {A : Type 0} (r : Result (List ℕ) TagKind) (given kind : TagKind) (o : Option A) (text : List ℕ) → r ≡ Err given → given ≡ kind → Err kind ≡ ok_or o BadMark → o ≡ None → value_of text ≡ None → Gives Memory (λ x. x) r (ok_or (value_of text) BadMark)
-gives_refused {A = A} (Ok x) given kind o text is same e none refused = absurd cc
-gives_refused {A = A} (Err k) given kind o text is same e none refused =
-    let bad : k ≡ BadMark = by_none o e none in
-    inr (ap (λ (v : Option (List ℕ)). ok_or v BadMark) refused ∙ ap (λ (k : TagKind). Err k) (sym bad))
-  where
-    by_none : (w : Option A) → Err kind ≡ ok_or w BadMark → w ≡ None → k ≡ BadMark
-    by_none None e none = cc
-    by_none (Some x) e none = absurd cc
+-- a text with a value has no & that begins no reference
+pub reads_some : (r : Option (ℕ × Bor (List ℕ))) (text said rest behind : List ℕ) → IsSome (value_of text) → SaysSoFar text said rest → past is_plain_byte rest ≡ 38 ∷ behind → option_map (λ x. (encode_utf8 x.0, x.1.now)) r ≡ reference_at behind → IsSome r
+reads_some (Some x) text said rest behind some so_far past_is e = refl
+reads_some None text said rest behind some so_far past_is e = rw (says_refused text said rest behind so_far past_is (sym e)) at some
 
-pub gives_value : (text said rest value : List ℕ) → value_of text ≡ Some (said ++ rest) → value ≡ said ++ rest → ok_or (value_of text) BadMark ≡ Ok value
-gives_value text said rest value e is = ap (λ (v : Option (List ℕ)). ok_or v BadMark) (e ∙ ap (λ (v : List ℕ). Some v) (sym is))
+-- each & up to the rest begins a reference
+pub record HasReferences (text rest : List ℕ) : Type 0 where
+  pub said : List ℕ
+  pub says : SaysSoFar text said rest
+
+pub references_begin : (text : List ℕ) → HasReferences text text
+references_begin text = record { said = []; says = says_begin text }
+
+pub references_more : (text rest behind character after : List ℕ) → HasReferences text rest → past is_plain_byte rest ≡ 38 ∷ behind → reference_at behind ≡ Some (character, after) → HasReferences text after
+references_more text rest behind character after h past_is read = record { said = _; says = says_more text h.said rest behind character after h.says past_is read }
+
+pub references_refused : (text rest behind : List ℕ) → HasReferences text rest → past is_plain_byte rest ≡ 38 ∷ behind → reference_at behind ≡ None → false ≡ is_some (value_of text)
+references_refused text rest behind h past_is none = rw (says_refused text h.said rest behind h.says past_is none) refl
+
+pub references_end : (text rest : List ℕ) → HasReferences text rest → past is_plain_byte rest ≡ [] → true ≡ is_some (value_of text)
+references_end text rest h past_is = rw (says_end text h.said rest h.says past_is) refl

@@ -31,6 +31,11 @@ abbrev pub are_distinct : List Attr → Bool
 are_distinct [] = true
 are_distinct (attr ∷ attrs) = not (has_name attr.name attrs) && are_distinct attrs
 
+-- how many different names attributes have
+abbrev pub name_count : List Attr → ℕ
+name_count [] = 0
+name_count (attr ∷ attrs) = name_count attrs + (if has_name attr.name attrs then 0 else 1)
+
 abbrev pub tag_of : StartTag → ℕ → ℕ → Tag
 tag_of start place depth = record { name = start.name; place = place; depth = depth; attrs = start.attrs }
 

@@ -65,7 +65,7 @@ fn opening(text: &str) -> Option<(Quote, &str)>
 #[tactic(auto, unfolding(crate::specs::Marks::quoted_at))]
 fn quoted(alloc: Global, text: &str) -> Result<(Text, &str), TagKind>
     ensures gives { Gives Memory (λ x. (x.0, x.1.now)) result (ok_or (quoted_at text.now) BadMark) }
-    ensures memory { result ≡ Err Memory → IsSome (opening_at text.now >?= λ opened. after_front (opened.0 ∷ []) (past (is_value_byte opened.0) opened.1)) }
+    ensures memory { result ≡ Err Memory → IsSome (quoted_at text.now) }
 {
     let Some((quote, text)) = opening(text) else {
         return Err(TagKind::BadMark);
@@ -82,7 +82,7 @@ fn quoted(alloc: Global, text: &str) -> Result<(Text, &str), TagKind>
 #[tactic(auto, unfolding(crate::specs::Marks::attr_at))]
 fn attribute(alloc: Global, text: &str) -> Result<(Attr, &str), TagKind>
     ensures gives { Gives Memory (λ x. (x.0, x.1.now)) result (ok_or (attr_at text.now) BadMark) }
-    ensures memory { result ≡ Err Memory → IsSome (name_at text.now >?= λ name. after_front (codes "=") (past is_space name.1)) }
+    ensures memory { result ≡ Err Memory → IsSome (attr_at text.now) }
 {
     let Some((name, rest)) = name(text) else {
         return Err(TagKind::BadMark);
@@ -121,13 +121,13 @@ fn attributes(alloc: Global, text: &str) -> Result<(AttrList, &str), TagKind>
 
 /// Whether a tag closes itself, from what stands in it behind its attributes.
 #[tactic(auto, unfolding(crate::specs::Marks::ending_of))]
-fn ending(text: &str) -> Option<bool>
-    ensures { result ≡ ending_of text.now }
+fn ending(text: &str) -> Result<bool, TagKind>
+    ensures { result ≡ ok_or (ending_of text.now) BadMark }
 {
     match text.as_bytes() {
-        [] => Some(false),
-        [b'/'] => Some(true),
-        _ => None,
+        [] => Ok(false),
+        [b'/'] => Ok(true),
+        _ => Err(TagKind::BadMark),
     }
 }
 
@@ -141,9 +141,7 @@ fn start_in(alloc: Global, inside: &str) -> Result<StartTag, TagKind>
         return Err(TagKind::BadMark);
     };
     let (attrs, rest) = attributes(alloc, rest)?;
-    let Some(closes) = ending(Class::Space.past(rest)) else {
-        return Err(TagKind::BadMark);
-    };
+    let closes = ending(Class::Space.past(rest))?;
     let name = Text::copy(alloc, name)?;
     Ok(StartTag {
         name,

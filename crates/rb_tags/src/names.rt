@@ -1,8 +1,8 @@
 // The names of a tag's attributes, and lists of different names.
-ghost use Rattle.std.specs.Prelude.{◌≡◌, ◌≤◌, ◌^◌, ◌++◌, ◌∷◌, [], not, if◌then◌else◌, bytes_eq, length, IfOk, IfErr};
+ghost use Rattle.std.specs.Prelude.{◌≡◌, ◌≤◌, ◌^◌, ◌++◌, ◌∷◌, [], not, false, if◌then◌else◌, bytes_eq, length, IfOk, IfErr};
 ghost use Rattle.std.specs.List.{list_any};
 ghost use Rattle.rb_tags.specs.Names.{AreDifferent, number_of_name};
-ghost use Rattle.rb_tags.specs.Seen.{are_distinct};
+ghost use Rattle.rb_tags.specs.Seen.{are_distinct, name_count};
 
 use crate::tag::Attr;
 use indexmap::IndexSet;
@@ -10,19 +10,26 @@ use std::alloc::{AllocError, Global};
 use std::collections::BTreeSet;
 use std::marker::Model;
 
-/// Whether no two attributes have one name. The set is sorted, so that no choice of names makes many attributes slow.
-pub fn are_distinct(alloc: Global, attrs: &[Attr]) -> Result<bool, AllocError>
-    ensures { IfOk result (λ b. b ≡ are_distinct attrs.now) }
+/// How many different names attributes have. The set is sorted, so that no choice of names makes many attributes slow.
+pub fn name_count(alloc: Global, attrs: &[Attr]) -> Result<usize, AllocError>
+    ensures { IfOk result (λ count. count ≡ name_count attrs.now) }
 {
     let mut names = BTreeSet::new(alloc);
     let mut rest = attrs;
     while let [others @ .., last] = rest {
-        if !names.insert(last.name.as_str())? {
-            return Ok(false);
-        }
+        names.insert(last.name.as_str())?;
         rest = others;
     }
-    Ok(true)
+    Ok(names.len())
+}
+
+/// Whether no two attributes have one name, where they have so many different names.
+#[tactic(auto, using(crate::proofs::Distinct::distinct_by_count))]
+pub fn are_distinct(names: usize, attrs: &[Attr]) -> bool
+    requires { names ≡ name_count attrs.now }
+    ensures { result ≡ are_distinct attrs.now }
+{
+    names == attrs.len()
 }
 
 /// Different names, in the order in which they were added.
@@ -52,12 +59,13 @@ impl<'a> Names<'a> {
         }
     }
 
-    /// Adds a name behind the others, if none of them is the same, and says whether it did. Its one refusal is for want of memory, and the
-    /// names are then as they were.
+    /// Adds a name behind the others, if none of them is the same, and says whether it did. Its one refusal is for want of memory, where
+    /// none is the same, and the names are then as they were.
     pub fn add(&mut self, name: &'a str) -> Result<bool, AllocError>
         ensures added { IfOk result (λ added. added ≡ not (list_any (bytes_eq name.now) self.old)) }
         ensures names { IfOk result (λ added. self.new ≡ (if added then self.old ++ name.now ∷ [] else self.old)) }
         ensures kept { IfErr result (λ _. self.new ≡ self.old) }
+        ensures absent { IfErr result (λ _. list_any (bytes_eq name.now) self.old ≡ false) }
     {
         Ok(self.names.insert(name)?)
     }

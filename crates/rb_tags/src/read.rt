@@ -1,6 +1,7 @@
-ghost use Rattle.std.specs.Prelude.{◌≡◌, IfOk, IfErr, Ok, Err, ◌⊎◌};
+ghost use Rattle.std.specs.Prelude.{◌≡◌, ◌≤◌, length, Some, IfOk, IfErr, Ok, Err, ◌⊎◌};
 ghost use Rattle.std.specs.Str.{IsUtf8};
 ghost use Rattle.rb_tags.specs.Tags.{tags_of, tags_of_text, no_memory};
+ghost use Rattle.rb_tags.specs.Faults.{kind_word, fault_text};
 ghost use Rattle.rb_tags.specs.declared.read.TagKind.TheVariants.{Memory};
 ghost use Rattle.rb_result.specs.Steps.{Gives};
 
@@ -9,6 +10,8 @@ use crate::reader::Reader;
 use crate::tag::Tags;
 use simdutf8::compat::from_utf8;
 use std::alloc::{AllocError, AllocFailed, Global};
+use std::error::Error;
+use std::fmt;
 
 /// What is wrong with a file of tags.
 #[derive(Clone, Copy, Debug, PartialEq, Eq)]
@@ -33,12 +36,53 @@ pub enum TagKind {
     Memory,
 }
 
+impl TagKind {
+    /// Its word.
+    pub fn word(self) -> &'static str
+        ensures word { result.now ≡ kind_word self }
+        ensures short { length result.now ≤ 8 }
+    {
+        match self {
+            TagKind::NotUtf8 => "NotUtf8",
+            TagKind::Unclosed => "Unclosed",
+            TagKind::Mismatch => "Mismatch",
+            TagKind::Doctype => "Doctype",
+            TagKind::Depth => "Depth",
+            TagKind::Twice => "Twice",
+            TagKind::BadMark => "BadMark",
+            TagKind::TooMany => "TooMany",
+            TagKind::Memory => "Memory",
+        }
+    }
+}
+
+impl fmt::Display for TagKind {
+    ghost output = { λ kind. Some (kind_word kind) };
+
+    fn fmt<W: fmt::Write>(&self, f: &mut fmt::Formatter<W>) -> fmt::Result {
+        f.write_str(self.word())
+    }
+}
+
+impl Error for TagKind {}
+
 /// What is wrong, and where: the place in bytes from 0, which is 0 for want of memory.
 #[derive(Clone, Copy, Debug, PartialEq, Eq)]
 pub struct TagFault {
     pub kind: TagKind,
     pub at: u64,
 }
+
+impl fmt::Display for TagFault {
+    ghost output = { λ fault. Some (fault_text fault) };
+
+    fn fmt<W: fmt::Write>(&self, f: &mut fmt::Formatter<W>) -> fmt::Result {
+        let TagFault { kind, at } = *self;
+        write!(f, "{kind} at {at}")
+    }
+}
+
+impl Error for TagFault {}
 
 /// The fault for want of memory.
 pub(crate) const NO_MEMORY: TagFault = TagFault {

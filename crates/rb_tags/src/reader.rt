@@ -9,7 +9,7 @@ ghost use Rattle.rb_tags.specs.declared.read.TagKind.TheVariants.{Memory};
 
 use crate::bytes::Class;
 use crate::marks::{ReadMark, StartTag, mark};
-use crate::names::are_distinct;
+use crate::names::{are_distinct, name_count};
 use crate::read::{NO_MEMORY, TagFault, TagKind};
 use crate::tag::{MAX_DEPTH, MAX_TAGS, Tag, Tags};
 use crate::text::Text;
@@ -85,8 +85,8 @@ impl Reader {
     fn start(&mut self, alloc: Global, place: u64, start: StartTag) -> Result<(), TagKind>
         ensures { Gives Memory (λ _. seen_of self.new) result (started (seen_of self.old) place start) }
     {
-        let distinct = are_distinct(alloc, start.attrs.as_slice())?;
-        self.may_start(distinct)?;
+        let names = name_count(alloc, start.attrs.as_slice())?;
+        self.may_start(are_distinct(names, start.attrs.as_slice()))?;
         if start.closes {
             return self.add(place, start);
         }

@@ -271,6 +271,16 @@ fn faults(rt: HostRuntime) {
     }
 }
 
+#[test]
+fn faults_are_told(rt: HostRuntime) -> Result<(), Fail> {
+    let fault = read_tags(rt.alloc(), &LIFT[..33])
+        .err()
+        .ok_or("a cut file")?;
+    let text = format!(in rt.alloc(); "{fault}")?;
+    assert_eq!(rt; text.as_str(), "Unclosed at 19");
+    Ok(())
+}
+
 // What follows 64 open elements, and the first fault there.
 const DEEP: [(&str, TagKind, u64); 5] = [
     ("<a/>", TagKind::Depth, 192),

@@ -1,6 +1,6 @@
 // The values of attributes, and the references in them.
-ghost use Rattle.std.specs.Prelude.{◌≡◌, ◌≤◌, [], ◌∷◌, MatchOption, take_while};
-ghost use Rattle.std.specs.Option.{option_map, ok_or};
+ghost use Rattle.std.specs.Prelude.{◌≡◌, ◌≤◌, [], ◌∷◌, MatchOption, Some, IsSome, IfOk, Err, take_while};
+ghost use Rattle.std.specs.Option.{option_map, ok_or, is_some};
 ghost use Rattle.std.specs.Char.{encode_utf8};
 ghost use Rattle.rb_tags.specs.declared.read.TagKind.TheVariants.{BadMark, Memory};
 ghost use Rattle.rb_tags.specs.Bytes.{is_plain_byte, past};
@@ -10,7 +10,7 @@ ghost use Rattle.rb_result.specs.Steps.{Gives};
 use crate::bytes::{Class, past_front};
 use crate::read::TagKind;
 use crate::text::Text;
-use std::alloc::Global;
+use std::alloc::{AllocError, Global};
 
 /// The character of a number in digits of a radix.
 #[tactic(auto, unfolding(crate::specs::References::character_of))]
@@ -81,18 +81,44 @@ fn split_reference(text: &str) -> Option<(&str, &str)>
     text.split_once('&')
 }
 
-/// What a value says, with its references replaced. Refused as `BadMark` where an `&` begins no reference.
-pub fn value(alloc: Global, text: &str) -> Result<Text, TagKind>
-    ensures { Gives Memory (λ x. x) result (ok_or (value_of text.now) BadMark) }
+/// Whether each `&` of a value begins a reference.
+fn is_value(text: &str) -> bool
+    ensures { result ≡ is_some (value_of text.now) }
+{
+    let mut rest = text;
+    while let Some((_, after)) = split_reference(rest) {
+        let Some((_, after)) = reference(after) else {
+            return false;
+        };
+        rest = after;
+    }
+    true
+}
+
+/// What a value says, with its references replaced. Its one refusal is for want of memory.
+fn said(alloc: Global, text: &str) -> Result<Text, AllocError>
+    requires { IsSome (value_of text.now) }
+    ensures { IfOk result (λ said. value_of text.now ≡ Some said) }
 {
     let mut said = String::with_capacity(alloc, text.len())?;
     let mut rest = text;
     while let Some((plain, after)) = split_reference(rest) {
         said.push_str(plain)?;
-        let (character, after) = reference(after).ok_or(TagKind::BadMark)?;
+        let (character, after) = reference(after).unwrap();
         said.push(character)?;
         rest = after;
     }
     said.push_str(rest)?;
     Ok(Text::from_string(said))
+}
+
+/// What a value says, with its references replaced. Refused as `BadMark` where an `&` begins no reference.
+pub fn value(alloc: Global, text: &str) -> Result<Text, TagKind>
+    ensures gives { Gives Memory (λ x. x) result (ok_or (value_of text.now) BadMark) }
+    ensures memory { result ≡ Err Memory → IsSome (value_of text.now) }
+{
+    if !is_value(text) {
+        return Err(TagKind::BadMark);
+    }
+    Ok(said(alloc, text)?)
 }

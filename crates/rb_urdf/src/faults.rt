@@ -1,8 +1,10 @@
-ghost use Rattle.std.specs.Prelude.{◌≡◌};
-ghost use Rattle.rb_urdf.specs.Faults.{no_memory, placed_kind};
+ghost use Rattle.std.specs.Prelude.{◌≡◌, ◌≤◌, length, Some};
+ghost use Rattle.rb_urdf.specs.Faults.{no_memory, placed_kind, kind_word, fault_text};
 ghost use Rattle.rb_urdf.specs.declared.faults.UrdfFaultKind.TheVariants.{Memory};
 
 use std::alloc::{AllocError, AllocFailed};
+use std::error::Error;
+use std::fmt;
 
 /// What is wrong with the tags of a robot. The place of each but `Memory` is that of the element that it names.
 #[derive(Clone, Copy, Debug, PartialEq, Eq)]
@@ -39,12 +41,59 @@ pub enum UrdfFaultKind {
     Memory,
 }
 
+impl UrdfFaultKind {
+    /// Its word.
+    pub fn word(self) -> &'static str
+        ensures word { result.now ≡ kind_word self }
+        ensures short { length result.now ≤ 12 }
+    {
+        match self {
+            UrdfFaultKind::NoRobot => "NoRobot",
+            UrdfFaultKind::Xacro => "Xacro",
+            UrdfFaultKind::NoName => "NoName",
+            UrdfFaultKind::NameTwice => "NameTwice",
+            UrdfFaultKind::BadNumber => "BadNumber",
+            UrdfFaultKind::NegativeMass => "NegativeMass",
+            UrdfFaultKind::BadType => "BadType",
+            UrdfFaultKind::NoParent => "NoParent",
+            UrdfFaultKind::NoChild => "NoChild",
+            UrdfFaultKind::UnknownLink => "UnknownLink",
+            UrdfFaultKind::PlanarAxis => "PlanarAxis",
+            UrdfFaultKind::MimicUnknown => "MimicUnknown",
+            UrdfFaultKind::MimicChain => "MimicChain",
+            UrdfFaultKind::MimicMaster => "MimicMaster",
+            UrdfFaultKind::Memory => "Memory",
+        }
+    }
+}
+
+impl fmt::Display for UrdfFaultKind {
+    ghost output = { λ kind. Some (kind_word kind) };
+
+    fn fmt<W: fmt::Write>(&self, f: &mut fmt::Formatter<W>) -> fmt::Result {
+        f.write_str(self.word())
+    }
+}
+
+impl Error for UrdfFaultKind {}
+
 /// What is wrong, and the place of the element's `<` in bytes of the file from 0.
 #[derive(Clone, Copy, Debug, PartialEq, Eq)]
 pub struct UrdfFault {
     pub kind: UrdfFaultKind,
     pub at: u64,
 }
+
+impl fmt::Display for UrdfFault {
+    ghost output = { λ fault. Some (fault_text fault) };
+
+    fn fmt<W: fmt::Write>(&self, f: &mut fmt::Formatter<W>) -> fmt::Result {
+        let UrdfFault { kind, at } = *self;
+        write!(f, "{kind} at {at}")
+    }
+}
+
+impl Error for UrdfFault {}
 
 /// For want of memory.
 pub(crate) const NO_MEMORY: UrdfFault = UrdfFault {

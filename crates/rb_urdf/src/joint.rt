@@ -1,9 +1,10 @@
 // The joints of a robot, whose mimics still name the joint that they follow.
-ghost use Rattle.std.specs.Prelude.{◌≡◌, ◌≤◌, ◌^◌, ◌++◌, ◌∷◌, [], codes, length, IfOk, Ok, option_map, option_copied};
+ghost use Rattle.std.specs.Prelude.{◌≡◌, ◌≤◌, ◌^◌, ◌++◌, ◌∷◌, [], codes, length, IfOk, IsOk, Ok, Err, not, ◌&&◌, if◌then◌else◌, option_map, option_copied};
 ghost use Rattle.rb_tags.specs.Elements.{elements, as_element};
+ghost use Rattle.rb_urdf.specs.Names.{name_after};
 ghost use Rattle.rb_urdf.specs.Joints.{kind_named, kind_of, end_of, ends_of, axis_of, follow_in, follow_of, is_exactly, is_plane_axis, is_planar, draft_of, drafts_after, names_of_drafts};
 ghost use Rattle.rb_result.specs.Steps.{Gives};
-ghost use Rattle.rb_urdf.specs.declared.faults.UrdfFaultKind.TheVariants.{Memory};
+ghost use Rattle.rb_urdf.specs.declared.faults.UrdfFaultKind.TheVariants.{Memory, PlanarAxis};
 ghost use Rattle.rb_urdf.specs.Faults.{no_memory};
 
 use crate::faults::{UrdfFault, UrdfFaultKind, fault};
@@ -133,7 +134,8 @@ fn copy_of(alloc: Global, text: Option<&str>) -> Result<Option<Text>, UrdfFaultK
 /// What the element `mimic` says.
 #[tactic(auto, unfolding(crate::specs::Joints::follow_in))]
 fn follow_in(alloc: Global, mimic: ElementRef<'_>) -> Result<Follow, UrdfFaultKind>
-    ensures { Gives Memory (λ follow. follow) result (follow_in (as_element mimic.entry)) }
+    ensures gives { Gives Memory (λ follow. follow) result (follow_in (as_element mimic.entry)) }
+    ensures memory { result ≡ Err Memory → IsOk (follow_in (as_element mimic.entry)) }
 {
     let multiplier = number_or(Iv::ONE, "multiplier", Some(mimic))?;
     let offset = number_or(Iv::ZERO, "offset", Some(mimic))?;
@@ -147,7 +149,8 @@ fn follow_in(alloc: Global, mimic: ElementRef<'_>) -> Result<Follow, UrdfFaultKi
 /// What the element `mimic` says, where there is one.
 #[tactic(auto, unfolding(crate::specs::Joints::follow_of))]
 fn follow_of(alloc: Global, mimic: Option<ElementRef<'_>>) -> Result<Option<Follow>, UrdfFaultKind>
-    ensures { Gives Memory (λ follow. follow) result (follow_of (option_map as_element mimic.entry)) }
+    ensures gives { Gives Memory (λ follow. follow) result (follow_of (option_map as_element mimic.entry)) }
+    ensures memory { result ≡ Err Memory → IsOk (follow_of (option_map as_element mimic.entry)) }
 {
     match mimic {
         Some(mimic) => Ok(Some(follow_in(alloc, mimic)?)),
@@ -171,6 +174,16 @@ fn is_plane_axis(axis: [Iv; 3]) -> bool
     is_exactly(0, x) && is_exactly(0, y) && is_exactly(S, z)
 }
 
+/// Whether a joint of a kind may have an axis: that of a planar one is exactly 0 0 1.
+fn check_axis(kind: UrdfKind, axis: [Iv; 3]) -> Result<(), UrdfFaultKind>
+    ensures { result ≡ (if is_planar kind && not (is_plane_axis axis) then Err PlanarAxis else Ok tt) }
+{
+    if kind == UrdfKind::Planar && !is_plane_axis(axis) {
+        return Err(UrdfFaultKind::PlanarAxis);
+    }
+    Ok(())
+}
+
 /// The joint of an element, whose name is put behind those of a set.
 #[tactic(auto, unfolding(crate::specs::Joints::draft_of))]
 fn draft_of<'a>(
@@ -182,6 +195,7 @@ fn draft_of<'a>(
     requires { length links.now ≤ 2 ^ 32 }
     ensures gives { Gives Memory (λ draft. draft) result (draft_of links.now names.old (as_element element.entry)) }
     ensures names { IfOk result (λ draft. names.new ≡ names.old ++ draft.joint.name ∷ []) }
+    ensures memory { result ≡ Err Memory → IsOk (name_after names.old (as_element element.entry)) }
 {
     let name = take_name(names, element)?;
     let kind = kind_of(element)?;
@@ -189,9 +203,7 @@ fn draft_of<'a>(
     let origin = origin_of(element.child("origin"))?;
     let axis = axis_of(kind, element)?;
     let follow = follow_of(alloc, element.child("mimic"))?;
-    if kind == UrdfKind::Planar && !is_plane_axis(axis) {
-        return Err(UrdfFaultKind::PlanarAxis);
-    }
+    check_axis(kind, axis)?;
     let joint = UrdfJoint {
         name: Text::copy(alloc, name)?,
         place: element.tag.place,

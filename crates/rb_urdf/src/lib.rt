@@ -13,6 +13,8 @@ mod robot;
 
 pub use faults::{UrdfFault, UrdfFaultKind};
 pub use laws::robots_by_profile;
+pub use rb_num::Iv;
+pub use rb_tags::{Tags, Text};
 pub use read::read_urdf;
 pub use robot::{Joints, Links, UrdfJoint, UrdfKind, UrdfLink, UrdfMimic, UrdfRobot};
 

@@ -1,6 +1,7 @@
 // The links of a robot.
-ghost use Rattle.std.specs.Prelude.{◌≡◌, ◌≤◌, ◌++◌, ◌∷◌, [], codes, length, IfOk, option_map};
+ghost use Rattle.std.specs.Prelude.{◌≡◌, ◌≤◌, ◌++◌, ◌∷◌, [], codes, length, IfOk, IsOk, Err, option_map};
 ghost use Rattle.rb_tags.specs.Elements.{elements, as_element};
+ghost use Rattle.rb_urdf.specs.Names.{name_after};
 ghost use Rattle.rb_urdf.specs.Links.{six_of, inertial_of, link_of, links_after};
 ghost use Rattle.rb_result.specs.Steps.{Gives};
 ghost use Rattle.rb_urdf.specs.declared.faults.UrdfFaultKind.TheVariants.{Memory};
@@ -61,6 +62,7 @@ fn link_of<'a>(
 ) -> Result<UrdfLink, UrdfFaultKind>
     ensures gives { Gives Memory (λ link. link) result (link_of names.old (as_element element.entry)) }
     ensures names { IfOk result (λ link. names.new ≡ names.old ++ link.name ∷ []) }
+    ensures memory { result ≡ Err Memory → IsOk (name_after names.old (as_element element.entry)) }
 {
     let name = take_name(names, element)?;
     let inertial = inertial_of(element.child("inertial"))?;

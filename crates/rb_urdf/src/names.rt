@@ -1,5 +1,5 @@
 // The names of links and joints.
-ghost use Rattle.std.specs.Prelude.{◌≡◌, ◌++◌, ◌∷◌, [], IfOk};
+ghost use Rattle.std.specs.Prelude.{◌≡◌, ◌≢◌, ◌++◌, ◌∷◌, [], IfOk, IsOk, Err};
 ghost use Rattle.rb_tags.specs.Elements.{as_element};
 ghost use Rattle.rb_result.specs.Steps.{Gives};
 ghost use Rattle.rb_urdf.specs.declared.faults.UrdfFaultKind.TheVariants.{Memory};
@@ -11,7 +11,8 @@ use rb_tags::{ElementRef, Names};
 /// The name of an element, which is given.
 #[tactic(auto, unfolding(crate::specs::Names::name_of))]
 pub fn name_of<'a>(element: ElementRef<'a>) -> Result<&'a str, UrdfFaultKind>
-    ensures { Gives Memory (λ name. name.now) result (name_of (as_element element.entry)) }
+    ensures gives { Gives Memory (λ name. name.now) result (name_of (as_element element.entry)) }
+    ensures takes_no_memory { result ≢ Err Memory }
 {
     match element.given("name") {
         Some(name) => Ok(name),
@@ -27,6 +28,7 @@ pub fn take_name<'a>(
 ) -> Result<&'a str, UrdfFaultKind>
     ensures gives { Gives Memory (λ name. name.now) result (name_after names.old (as_element element.entry)) }
     ensures names { IfOk result (λ name. names.new ≡ names.old ++ name.now ∷ []) }
+    ensures memory { result ≡ Err Memory → IsOk (name_after names.old (as_element element.entry)) }
 {
     let name = name_of(element)?;
     if names.add(name)? {

@@ -1,7 +1,8 @@
 // The numbers of attributes.
-ghost use Rattle.std.specs.Prelude.{◌≡◌, option_map};
+ghost use Rattle.std.specs.Prelude.{◌≡◌, ◌≢◌, Err, option_map};
 ghost use Rattle.rb_urdf.specs.Numbers.{number_in, three_in, number_or, three_or, origin_of};
 ghost use Rattle.rb_tags.specs.Elements.{as_element};
+ghost use Rattle.rb_urdf.specs.declared.faults.UrdfFaultKind.TheVariants.{Memory};
 
 use crate::faults::UrdfFaultKind;
 use rb_num::Iv;
@@ -21,7 +22,8 @@ pub struct Origin {
 /// The bracket of a text.
 #[tactic(auto, unfolding(crate::specs::Numbers::number_in))]
 fn number_in(text: &[u8]) -> Result<Iv, UrdfFaultKind>
-    ensures { result ≡ number_in text.now }
+    ensures exact { result ≡ number_in text.now }
+    ensures takes_no_memory { result ≢ Err Memory }
 {
     match read_bracket(text) {
         Ok(v) => Ok(v),
@@ -47,7 +49,8 @@ pub fn number_or(
     key: &str,
     element: Option<ElementRef<'_>>,
 ) -> Result<Iv, UrdfFaultKind>
-    ensures { result ≡ number_or default key.now (option_map as_element element.entry) }
+    ensures exact { result ≡ number_or default key.now (option_map as_element element.entry) }
+    ensures takes_no_memory { result ≢ Err Memory }
 {
     match attribute_in(key, element) {
         Some(text) => number_in(text.as_bytes()),

@@ -1,4 +1,5 @@
 ghost use Rattle.std.specs.Prelude.{◌≡◌, ◌≢◌, []};
+ghost use Rattle.std.specs.Str.{IsUtf8};
 ghost use Rattle.rb_urdf.specs.Robot.{IsRobot};
 
 use rb_num::Iv;
@@ -128,6 +129,7 @@ impl UrdfRobot {
     pub fn name(&self) -> &str
         ensures same { result.now ≡ self.now.name }
         ensures kept { self.now.name ≢ [] }
+        ensures utf8 { IsUtf8 self.now.name }
     {
         self.name.as_str()
     }

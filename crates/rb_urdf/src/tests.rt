@@ -435,6 +435,15 @@ fn ends_are_read(rt: HostRuntime) -> Result<(), Fail> {
     Ok(())
 }
 
+#[test]
+fn faults_are_told(rt: HostRuntime) -> Result<(), Fail> {
+    let tags = read_tags(rt.alloc(), b"<lift/>").ok().ok_or("tags")?;
+    let fault = read_urdf(rt.alloc(), &tags).err().ok_or("a fault")?;
+    let text = format!(in rt.alloc(); "{fault}")?;
+    assert_eq!(rt; text.as_str(), "NoRobot at 0");
+    Ok(())
+}
+
 fn is_shared<T: Send + Sync>() {}
 
 // Threads may send and share each public type.

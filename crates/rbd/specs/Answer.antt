@@ -1,7 +1,7 @@
 -- The lines of the output.
 use Rattle.std.specs.Prelude.{ℕ, ◌+◌, ◌*◌, List, [], ◌∷◌, ◌++◌, replicate, flat_map, codes, decimal, Result, Ok, Err}
 use Rattle.rb_num.specs.Interval.{Interval}
-use Rattle.rb_text.specs.Print.{iv_text}
+use Rattle.rb_num.specs.Text.{iv_text}
 use Rattle.rbd.specs.declared.chain.Slider.{Slider}
 use Rattle.rbd.specs.declared.cause.Cause.{Cause}
 use Rattle.rbd.specs.declared.cause.Cause.TheVariants.{Field, Refused}

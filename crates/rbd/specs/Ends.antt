@@ -5,8 +5,7 @@ use Rattle.rbd.specs.declared.stop.Stop.TheVariants.{Usage, BadTags, Unbuilt, Lo
 use Rattle.rbd.specs.declared.status.Status.{Status}
 use Rattle.rbd.specs.declared.status.Status.TheVariants as status
 use Rattle.rb_tags.specs.declared.read.TagFault.{TagFault}
-use Rattle.rb_tags.specs.declared.read.TagKind.{TagKind}
-use Rattle.rb_tags.specs.declared.read.TagKind.TheVariants as tag
+use Rattle.rb_tags.specs.Faults.{fault_text}
 use Rattle.rbd.specs.Course.{name_of, most_file, most_rows}
 
 abbrev pub status_of_stop : Stop → Status
@@ -37,20 +36,9 @@ is_answer status.InputFault = false
 is_answer status.OutputFault = false
 is_answer status.Memory = false
 
-abbrev pub tag_kind_text : TagKind → List ℕ
-tag_kind_text tag.NotUtf8 = codes "NotUtf8"
-tag_kind_text tag.Unclosed = codes "Unclosed"
-tag_kind_text tag.Mismatch = codes "Mismatch"
-tag_kind_text tag.Doctype = codes "Doctype"
-tag_kind_text tag.Depth = codes "Depth"
-tag_kind_text tag.Twice = codes "Twice"
-tag_kind_text tag.BadMark = codes "BadMark"
-tag_kind_text tag.TooMany = codes "TooMany"
-tag_kind_text tag.Memory = codes "Memory"
-
--- the kind and the place of a fault
+-- the line of a fault of the robot's tags
 unfoldable pub tag_fault_text : TagFault → List ℕ
-tag_fault_text fault = codes "rbd: urdf: " ++ (tag_kind_text fault.kind ++ (codes " at " ++ (decimal fault.at ++ 10 ∷ [])))
+tag_fault_text fault = codes "rbd: urdf: " ++ fault_text fault ++ 10 ∷ []
 
 abbrev pub text_of_stop : Stop → List ℕ
 text_of_stop (BadTags fault) = tag_fault_text fault

@@ -1,12 +1,12 @@
 //! The status and the line on standard error of an answer.
 ghost use Rattle.std.specs.Prelude.{◌≤◌, ◌+◌, ◌++◌, ◌∷◌, [], length, codes, decimal, ◌≡◌, ◌↔◌, ◌⊎◌, Bool, IsTrue, Result, Ok, Err};
 ghost use Rattle.rbd.specs.Stops.{is_plain};
-ghost use Rattle.rbd.specs.Ends.{status_of, is_answer, text_of, tag_kind_text, tag_fault_text};
+ghost use Rattle.rbd.specs.Ends.{status_of, is_answer, text_of, tag_fault_text};
 
 use crate::line::put_number;
 use crate::status::Status;
 use crate::stop::Stop;
-use rb_tags::{TagFault, TagKind};
+use rb_tags::TagFault;
 use rb_text::Out;
 
 /// The status of an answer.
@@ -53,30 +53,13 @@ fn put_long_line(row: u64, line: &mut Out)
     line.put(b"\n");
 }
 
-fn tag_kind_word(kind: TagKind) -> &'static [u8]
-    ensures word { result.now ≡ tag_kind_text kind }
-    ensures short { length result.now ≤ 8 }
-{
-    match kind {
-        TagKind::NotUtf8 => b"NotUtf8",
-        TagKind::Unclosed => b"Unclosed",
-        TagKind::Mismatch => b"Mismatch",
-        TagKind::Doctype => b"Doctype",
-        TagKind::Depth => b"Depth",
-        TagKind::Twice => b"Twice",
-        TagKind::BadMark => b"BadMark",
-        TagKind::TooMany => b"TooMany",
-        TagKind::Memory => b"Memory",
-    }
-}
-
 #[tactic(auto, using(std::proofs::Common::append_assoc), unfolding(crate::specs::Ends::tag_fault_text))]
 fn put_tag_fault(fault: TagFault, line: &mut Out)
     requires { 80 ≤ line.old.spare }
     ensures { line.new.bytes ≡ line.old.bytes ++ tag_fault_text fault }
 {
     line.put(b"rbd: urdf: ");
-    line.put(tag_kind_word(fault.kind));
+    line.put(fault.kind.word().as_bytes());
     line.put(b" at ");
     put_number(fault.at, line);
     line.put(b"\n");

@@ -1,5 +1,5 @@
-use Rattle.std.proofs.Common.{◌∙◌, not, ap, sym, subst}
-use Rattle.std.specs.Prelude.{bytes_eq}
+use Rattle.std.proofs.Common.{◌∙◌, not, ap, sym, subst, Result, Ok, Err}
+use Rattle.std.specs.Prelude.{bytes_eq, IfErr}
 use Rattle.std.specs.List.{list_any}
 use Rattle.rb_tags.specs.Names.{AreDifferent}
 use Rattle.rb_tags.proofs.Different.{differ-added}
@@ -10,6 +10,14 @@ pub returns-clause-added : goal.returns-clause-added
 returns-clause-added c =
     c.in_ok-insert.ensures.added
     ∙ ap not (has_text c.self.inside.names.keys c.args.name ∙ ap (list_any (bytes_eq c.args.name.now)) c.self.view_is)
+
+if_err : {A E P : Type 0} (r : Result A E) → P → IfErr r (λ _. P)
+if_err (Ok x) h = tt
+if_err (Err e) h = h
+
+pub returns-in_err-insert-clause-absent : goal.returns-in_err-insert-clause-absent
+returns-in_err-insert-clause-absent c =
+    if_err c.from_residual.result (sym (has_text c.self.inside.names.keys c.args.name ∙ ap (list_any (bytes_eq c.args.name.now)) c.self.view_is) ∙ c.in_err-insert.ensures.absent)
 
 pub invariant_of-self : goal.invariant_of-self
 invariant_of-self c = subst (λ keys. AreDifferent (texts keys)) (sym c.in_err-insert.ensures.err) c.self.invariant

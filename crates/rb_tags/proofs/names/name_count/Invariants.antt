@@ -1,6 +1,6 @@
 use Rattle.std.proofs.Common.{length}
 use Rattle.rb_tags.proofs.Distinct.{NamesSoFar}
-use Rattle.rb_tags.proofs.names.are_distinct.Given as goal
+use Rattle.rb_tags.proofs.names.name_count.Given as goal
 
 abbrev pub invariant-loop-rest : goal.invariant-loop-rest
 invariant-loop-rest l = NamesSoFar l.attrs l.rest l.names

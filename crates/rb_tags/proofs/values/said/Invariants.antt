@@ -2,7 +2,7 @@ use Rattle.std.proofs.Common.{length, string_bytes}
 use denote.Text.{Utf8}
 use denote.Shadow.{shadow}
 use Rattle.rb_tags.proofs.ValueSteps.{SaysSoFar}
-use Rattle.rb_tags.proofs.values.value.Given as goal
+use Rattle.rb_tags.proofs.values.said.Given as goal
 
 abbrev pub invariant-loop-plain : goal.invariant-loop-plain
 invariant-loop-plain l = record {
