@@ -4,7 +4,7 @@ use Rattle.rb_frac.specs.Ops.{V3, signs, vadd, vscale, vdot}
 use Rattle.rb_frac.specs.Pairs.{dot}
 use Rattle.rb_frac.specs.Frac.{Frac, Same, fracs}
 use Rattle.rb_frac.specs.Tables.{nothing, identity, table_times, table_product, table_sum, table_scaled}
-use Rattle.rb_frac.specs.Spatial.{Frame, Places, SineCosine}
+use Rattle.rb_frac.specs.Spatial.{Frame, Places, SineCosine, Quaternion}
 use Rattle.rb_frac.proofs.Ring.{expr, var}
 use Rattle.rb_frac.proofs.Variables.{vector, rows, frame, sine_cosine, quaternion, of_vector, of_rows, of_frame, of_sine_cosine, of_quaternion, vectors, tables}
 use Rattle.rb_num.specs.Arith.{fractions}
@@ -14,7 +14,7 @@ use Rattle.rb_spatial.specs.Carrying.{row_mul, product}
 use Rattle.rb_flat.specs.Turns.{about_x, about_y, about_z, roll_pitch_yaw, about_axis, about_quaternion, placed}
 use Rattle.rb_joint.specs.Turns.{rotation_row_x, rotation_row_y, rotation_row_z, rotation, axis_products, axis_row_x, axis_row_y, axis_row_z, turn_about, quaternion_row_x, quaternion_row_y, quaternion_row_z, twice, turn_of}
 use Rattle.rb_joint.specs.Places.{outside, place_of, place_shifted}
-use Rattle.rb_joint.specs.Models.{place_fixed, place_turned, place_along}
+use Rattle.rb_joint.specs.Models.{place_fixed, place_turned, place_along, place_level, place_free}
 use Rattle.rb_joint.specs.Laws.{RotationIsProduct, TurnIsAboutAxis, TurnIsAboutQuaternion, PlaceIsProduct, ShiftedPlaceTurnsNot}
 
 pub rotation-product : RotationIsProduct
@@ -90,6 +90,21 @@ place_turned-placed f a t =
     let l = of_frame f (of_vector a (of_sine_cosine t [])) in
     let got = place_turned expressions (frame 0) (vector 12) (sine_cosine 15) in
     let want = (placed expr (frame 0) (about_axis expr (vector 12) (sine_cosine 15)) (nothing (signs expr))) in
+    record {
+      e = tables l got.e want.e (refl, refl, refl) (refl, refl, refl) (refl, refl, refl);
+      r = vectors l got.r want.r (refl, refl, refl);
+    }
+
+pub place_level-placed : (f : Frame Frac) (p : V3 Frac) (t : SineCosine Frac) → Places Same (place_level fractions f p t) (placed fracs f (about_z (signs fracs) t) p)
+unfolding place_level
+place_level-placed f p t = place_of-placed f (about_z (signs fracs) t) p
+
+pub place_free-placed : (f : Frame Frac) (p : V3 Frac) (q : Quaternion Frac) → Places Same (place_free fractions f p q) (placed fracs f (about_quaternion fracs q) p)
+unfolding place_free place_of product row_mul turn_of twice quaternion_row_x quaternion_row_y quaternion_row_z outside dot placed about_quaternion table_product table_sum table_scaled table_times vadd vscale vdot
+place_free-placed f p q =
+    let l = of_frame f (of_vector p (of_quaternion q [])) in
+    let got = place_free expressions (frame 0) (vector 12) (quaternion 15) in
+    let want = (placed expr (frame 0) (about_quaternion expr (quaternion 15)) (vector 12)) in
     record {
       e = tables l got.e want.e (refl, refl, refl) (refl, refl, refl) (refl, refl, refl);
       r = vectors l got.r want.r (refl, refl, refl);

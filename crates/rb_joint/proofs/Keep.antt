@@ -1,14 +1,16 @@
 -- Each rule of joints keeps each relation that the operations keep.
+use Rattle.std.proofs.Common.{ℕ, ◌-◌, ◌==◌, nat_lt}
 use Rattle.rb_frac.specs.Ops.{V3}
 use Rattle.rb_num.specs.Arith.{Arith, signs_of}
 use Rattle.rb_num.proofs.Relates.{Relates, Met, dot_met, add_met, sub_met, ret_met, then_met}
-use Rattle.rb_frac.specs.Tables.{Table, Symmetric, nothing, Vectors, Tables, Symmetrics}
-use Rattle.rb_frac.specs.Spatial.{Frame, Places, Frames, SineCosine, Quaternion, SineCosines, Quaternions}
-use Rattle.rb_spatial.proofs.Keep.{three_met, rows_met, six_met, product_met, multiple_met, transpose_rel}
+use Rattle.rb_frac.specs.Tables.{Table, Symmetric, nothing, unit, Vectors, Tables, Symmetrics}
+use Rattle.rb_frac.specs.Spatial.{Frame, Spatials, Places, Frames, SineCosine, Quaternion, SineCosines, Quaternions}
+use Rattle.rb_spatial.proofs.Keep.{choice, three_met, rows_met, six_met, product_met, multiple_met, transpose_rel}
 use Rattle.rb_flat.specs.Turns.{about_z}
+use Rattle.rb_flat.specs.Joint.{Planar, Free, along, around, joint_column}
 use Rattle.rb_joint.specs.Turns.{rotation_row_x, rotation_row_y, rotation_row_z, rotation, axis_products, axis_row_x, axis_row_y, axis_row_z, turn_about, quaternion_row_x, quaternion_row_y, quaternion_row_z, twice, turn_of}
 use Rattle.rb_joint.specs.Places.{outside, place_of, place_shifted}
-use Rattle.rb_joint.specs.Models.{place_fixed, place_turned, place_along}
+use Rattle.rb_joint.specs.Models.{place_fixed, place_turned, place_along, place_level, place_free}
 
 module _ {R Q : Arith} (K : Relates R Q) where
   rotation_row_x_met : {roll pitch yaw : SineCosine R.N} {t1 t2 : R.N} {roll' pitch' yaw' : SineCosine Q.N} {t1' t2' : Q.N} → SineCosines K.rel roll roll' → SineCosines K.rel pitch pitch' → SineCosines K.rel yaw yaw' → K.rel t1 t1' → K.rel t2 t2' → Met K (Vectors K.rel) (rotation_row_x R roll pitch yaw t1 t2) (rotation_row_x Q roll' pitch' yaw' t1' t2')
@@ -107,3 +109,33 @@ module _ {R Q : Arith} (K : Relates R Q) where
   pub place_along_met : {f : Frame R.N} {a : V3 R.N} {d : R.N} {f' : Frame Q.N} {a' : V3 Q.N} {d' : Q.N} → Frames K.rel f f' → Vectors K.rel a a' → K.rel d d' → Met K (Places K.rel) (place_along R f a d) (place_along Q f' a' d')
   unfolding place_along
   place_along_met hf ha hd = then_met K (multiple_met K hd ha) (λ _ _ hp. place_shifted_met hf hp)
+
+  pub place_level_met : {f : Frame R.N} {p : V3 R.N} {t : SineCosine R.N} {f' : Frame Q.N} {p' : V3 Q.N} {t' : SineCosine Q.N} → Frames K.rel f f' → Vectors K.rel p p' → SineCosines K.rel t t' → Met K (Places K.rel) (place_level R f p t) (place_level Q f' p' t')
+  unfolding place_level
+  place_level_met hf hp ht = place_of_met hf (turn_level_rel ht) hp
+
+  pub place_free_met : {f : Frame R.N} {p : V3 R.N} {q : Quaternion R.N} {f' : Frame Q.N} {p' : V3 Q.N} {q' : Quaternion Q.N} → Frames K.rel f f' → Vectors K.rel p p' → Quaternions K.rel q q' → Met K (Places K.rel) (place_free R f p q) (place_free Q f' p' q')
+  unfolding place_free
+  place_free_met hf hp hq = then_met K (turn_of_met hq) (λ _ _ ht. place_of_met hf ht hp)
+
+  -- ---- columns
+  along_rel : {a : V3 R.N} {a' : V3 Q.N} → Vectors K.rel a a' → Spatials K.rel (along (signs_of R) a) (along (signs_of Q) a')
+  along_rel h = record { lin = h; ang = origin_rel }
+
+  around_rel : {a : V3 R.N} {a' : V3 Q.N} → Vectors K.rel a a' → Spatials K.rel (around (signs_of R) a) (around (signs_of Q) a')
+  around_rel h = record { lin = origin_rel; ang = h }
+
+  unit_rel : (k : ℕ) → Vectors K.rel (unit (signs_of R) k) (unit (signs_of Q) k)
+  unit_rel k =
+      choice (Vectors K.rel) (k == 0)
+      (record { x = K.one; y = K.zero; z = K.zero })
+      (choice (Vectors K.rel) (k == 1) (record { x = K.zero; y = K.one; z = K.zero }) (record { x = K.zero; y = K.zero; z = K.one }))
+
+  -- no axis is asked for
+  pub planar_rel : (a : V3 R.N) (a' : V3 Q.N) (k : ℕ) → Spatials K.rel (joint_column (signs_of R) Planar a k) (joint_column (signs_of Q) Planar a' k)
+  unfolding joint_column
+  planar_rel a a' k = choice (Spatials K.rel) (k == 2) (around_rel (unit_rel 2)) (along_rel (unit_rel k))
+
+  pub free_rel : (a : V3 R.N) (a' : V3 Q.N) (k : ℕ) → Spatials K.rel (joint_column (signs_of R) Free a k) (joint_column (signs_of Q) Free a' k)
+  unfolding joint_column
+  free_rel a a' k = choice (Spatials K.rel) (nat_lt k 3) (along_rel (unit_rel k)) (around_rel (unit_rel (k - 3)))

@@ -3,3 +3,5 @@ pub mod Enclosure
 pub mod Identities
 pub mod Choices
 pub mod Ranges
+pub mod JointMotion
+pub mod JointMotionLies

@@ -1,4 +1,4 @@
-ghost use Rattle.std.specs.Prelude.{◌≡◌, ◌↔◌, IfOk, IsErrOf};
+ghost use Rattle.std.specs.Prelude.{◌≡◌, ◌≢◌, ◌↔◌, IfOk, IfErr, IsErrOf};
 ghost use Rattle.rb_joint.specs.Frames.{sine_cosine_of as sine_cosine_by, frame_by, EnclosesFrame, AreAngles};
 
 use crate::faults::JointFault;
@@ -26,6 +26,7 @@ pub fn frame_of(xyz: &Vec3, rpy: &Vec3) -> Result<Frame, JointFault>
     ensures exact { result ≡ frame_by xyz.now rpy.now }
     ensures encloses { IfOk result (EnclosesFrame xyz.now rpy.now) }
     ensures range { IsErrOf result JointFault.Range ↔ ¬ AreAngles rpy.now }
+    ensures faults { IfErr result (λ e. e ≢ JointFault.NotUnit) }
 {
     let roll = sine_cosine_of(rpy.x())?;
     let pitch = sine_cosine_of(rpy.y())?;

@@ -3,6 +3,7 @@
 #![tactic(auto)]
 
 mod any;
+mod columns;
 mod faults;
 mod frames;
 pub mod laws;
@@ -15,7 +16,7 @@ pub use any::AnyJoint;
 pub use faults::JointFault;
 pub use frames::frame_of;
 pub use model::JointModel;
-pub use models::{Fixed, Prismatic, Revolute};
+pub use models::{Continuous, Fixed, Free, Planar, Prismatic, Revolute};
 pub use places::{outside, place_of, place_shifted};
 pub use turns::{Quaternion, SineCosine, axis_products, rotation, turn_about, turn_level, turn_of};
 

@@ -1,9 +1,11 @@
 use crate::{
-    AnyJoint, Fixed, JointFault, JointModel, Prismatic, Quaternion, Revolute, SineCosine, frame_of,
-    turn_of,
+    AnyJoint, Continuous, Fixed, Free, JointFault, JointModel, Planar, Prismatic, Quaternion,
+    Revolute, SineCosine, frame_of, turn_of,
 };
 use rb_num::{Iv, NumFault, S};
-use rb_spatial::{Frame, Mat3, Vec3};
+use rb_spatial::{Frame, Mat3, Motion, Place, Vec3};
+use std::process::Abort;
+use std::test::Fail;
 
 // The whole number `n`.
 fn whole(n: i32) -> Iv {
@@ -77,13 +79,14 @@ fn frames_of_one_angle(rt: HostRuntime) {
     assert!(rt; matches!(yaw, Some(r) if is_near_table(&r, [[0, -1, 0], [1, 0, 0], [0, 0, 1]])));
 }
 
-fn hundredths(n: i32) -> Iv {
-    let end = i128::from(n) * (S / 100);
+// So many parts of ten thousand.
+fn parts(n: i32) -> Iv {
+    let end = i128::from(n) * (S / 10_000);
     Iv::new(end, end)
 }
 
 fn level_vector(x: i32, y: i32) -> Vec3 {
-    Vec3::new(hundredths(x), hundredths(y), Iv::ZERO)
+    Vec3::new(parts(x), parts(y), Iv::ZERO)
 }
 
 // The vector part along z is 3/5 and the scalar part 4/5, which are the sine and the cosine of half the angle: the sine of the angle is
@@ -93,12 +96,12 @@ fn turn_of_a_quaternion(rt: HostRuntime) {
     let q = Quaternion {
         x: Iv::ZERO,
         y: Iv::ZERO,
-        z: hundredths(60),
-        w: hundredths(80),
+        z: parts(6000),
+        w: parts(8000),
     };
     let turn = turn_of(&q).ok();
     assert!(rt;
-        matches!(turn, Some(t) if t.x() == level_vector(28, -96) && t.y() == level_vector(96, 28) && t.z() == vector(0, 0, 1))
+        matches!(turn, Some(t) if t.x() == level_vector(2800, -9600) && t.y() == level_vector(9600, 2800) && t.z() == vector(0, 0, 1))
     );
 }
 
@@ -111,11 +114,7 @@ fn frame_of_roll_and_yaw(rt: HostRuntime) {
 
 #[test]
 fn shift_along_an_axis(rt: HostRuntime) {
-    let rot = Mat3::new(vector(0, -1, 0), vector(1, 0, 0), vector(0, 0, 1));
-    let frame = Frame {
-        rot,
-        at: vector(1, 2, 3),
-    };
+    let frame = turned_frame();
     let slider = AnyJoint::Prismatic(Prismatic::new(frame, vector(1, 0, 0)));
     assert_eq!(rt; (slider.nq(), slider.nv()), (1, 1));
     let place = slider.place(&[whole(2)]).ok();
@@ -126,6 +125,212 @@ fn shift_along_an_axis(rt: HostRuntime) {
     assert_eq!(rt; (still.nq(), still.nv()), (0, 0));
     let place = still.place(&[]).ok();
     assert!(rt; matches!(place, Some(p) if p.r == vector(1, 2, 3)));
+}
+
+// The x axis of this frame is y outside, and its y axis minus x.
+fn turned_frame() -> Frame {
+    Frame {
+        rot: Mat3::new(vector(0, -1, 0), vector(1, 0, 0), vector(0, 0, 1)),
+        at: vector(1, 2, 3),
+    }
+}
+
+// A cosine of 0 and a sine of 1.
+#[test]
+fn continuous_quarter_turns(rt: HostRuntime) -> Result<(), Fail> {
+    let tables = [
+        Mat3::new(vector(1, 0, 0), vector(0, 0, 1), vector(0, -1, 0)),
+        Mat3::new(vector(0, 0, -1), vector(0, 1, 0), vector(1, 0, 0)),
+        Mat3::new(vector(0, 1, 0), vector(-1, 0, 0), vector(0, 0, 1)),
+    ];
+    let axes = [vector(1, 0, 0), vector(0, 1, 0), vector(0, 0, 1)];
+    for (axis, e) in axes.iter().zip(tables.iter()) {
+        let joint = AnyJoint::Continuous(Continuous::new(world(), *axis)?);
+        assert_eq!(rt; (joint.nq(), joint.nv()), (2, 1));
+        let want = Place {
+            e: *e,
+            r: vector(0, 0, 0),
+        };
+        assert_eq!(rt; joint.place(&[Iv::ZERO, Iv::ONE]), Ok(want));
+        assert_eq!(rt; joint.column(0).ang, *axis);
+    }
+    Ok(())
+}
+
+// A shift along x and y of the frame, and a quarter turn on that of the frame.
+#[test]
+fn planar_shift_and_turn(rt: HostRuntime) {
+    let joint = AnyJoint::Planar(Planar::new(turned_frame()));
+    assert_eq!(rt; (joint.nq(), joint.nv()), (4, 3));
+    let want = Place {
+        e: Mat3::new(vector(-1, 0, 0), vector(0, -1, 0), vector(0, 0, 1)),
+        r: vector(-4, 6, 3),
+    };
+    assert_eq!(rt;
+        joint.place(&[whole(4), whole(5), Iv::ZERO, Iv::ONE]),
+        Ok(want)
+    );
+    let zero = vector(0, 0, 0);
+    assert_eq!(rt;
+        joint.column(0),
+        Motion {
+            lin: vector(1, 0, 0),
+            ang: zero
+        }
+    );
+    assert_eq!(rt;
+        joint.column(1),
+        Motion {
+            lin: vector(0, 1, 0),
+            ang: zero
+        }
+    );
+    assert_eq!(rt;
+        joint.column(2),
+        Motion {
+            lin: zero,
+            ang: vector(0, 0, 1)
+        }
+    );
+}
+
+// A half turn about x, in the frame.
+#[test]
+fn free_shift_and_half_turn(rt: HostRuntime) {
+    let joint = AnyJoint::Free(Free::new(turned_frame()));
+    assert_eq!(rt; (joint.nq(), joint.nv()), (7, 6));
+    let q = [
+        whole(4),
+        whole(5),
+        whole(6),
+        Iv::ONE,
+        Iv::ZERO,
+        Iv::ZERO,
+        Iv::ZERO,
+    ];
+    let want = Place {
+        e: Mat3::new(vector(0, 1, 0), vector(1, 0, 0), vector(0, 0, -1)),
+        r: vector(-4, 6, 9),
+    };
+    assert_eq!(rt; joint.place(&q), Ok(want));
+    let zero = vector(0, 0, 0);
+    assert_eq!(rt;
+        joint.column(1),
+        Motion {
+            lin: vector(0, 1, 0),
+            ang: zero
+        }
+    );
+    assert_eq!(rt;
+        joint.column(5),
+        Motion {
+            lin: zero,
+            ang: vector(0, 0, 1)
+        }
+    );
+}
+
+// The table of the place after a turn by the quaternion.
+fn turned_by(x: Iv, y: Iv, z: Iv, w: Iv) -> Option<Mat3> {
+    let q = [Iv::ZERO, Iv::ZERO, Iv::ZERO, x, y, z, w];
+    Some(Free::new(world()).place(&q).ok()?.e)
+}
+
+// The vector part and the scalar part are the root of one half.
+#[test]
+fn free_quarter_turns(rt: HostRuntime) {
+    let h = Iv::new(707_106_781_186, 707_106_781_187);
+    let x = turned_by(h, Iv::ZERO, Iv::ZERO, h);
+    assert!(rt; matches!(x, Some(e) if is_near_table(&e, [[1, 0, 0], [0, 0, 1], [0, -1, 0]])));
+    let y = turned_by(Iv::ZERO, h, Iv::ZERO, h);
+    assert!(rt; matches!(y, Some(e) if is_near_table(&e, [[0, 0, -1], [0, 1, 0], [1, 0, 0]])));
+    let z = turned_by(Iv::ZERO, Iv::ZERO, h, h);
+    assert!(rt; matches!(z, Some(e) if is_near_table(&e, [[0, 1, 0], [-1, 0, 0], [0, 0, 1]])));
+}
+
+// Whether continuous and planar joints take a cosine and a sine of this length for such, 3/5 and 4/5
+// of it.
+fn is_unit(rt: &impl Abort, length: i32) -> Result<bool, Fail> {
+    let (c, s) = (parts(length / 5 * 3), parts(length / 5 * 4));
+    let hinge = Continuous::new(world(), vector(0, 0, 1))?;
+    let turned = hinge.place(&[c, s]);
+    assert_eq!(rt;
+        turned,
+        Planar::new(world()).place(&[Iv::ZERO, Iv::ZERO, c, s])
+    );
+    match turned {
+        Ok(_) => Ok(true),
+        Err(fault) => {
+            assert_eq!(rt; fault, JointFault::NotUnit);
+            Ok(false)
+        }
+    }
+}
+
+// The square of the length decides: 0.999 squared is 0.998, and 1.001 squared 1.002.
+#[test]
+fn lengths_of_pairs(rt: HostRuntime) -> Result<(), Fail> {
+    assert!(rt; is_unit(&rt, 9_995)?);
+    assert!(rt; is_unit(&rt, 10_000)?);
+    for length in [9_980, 9_990, 10_005, 10_010, 10_020] {
+        assert!(rt; !is_unit(&rt, length)?, "{length}");
+    }
+    Ok(())
+}
+
+// What a free joint answers for this quaternion, in parts of ten thousand.
+fn length_of(x: i32, y: i32, z: i32, w: i32) -> Option<JointFault> {
+    let q = [
+        Iv::ZERO,
+        Iv::ZERO,
+        Iv::ZERO,
+        parts(x),
+        parts(y),
+        parts(z),
+        parts(w),
+    ];
+    Free::new(world()).place(&q).err()
+}
+
+// Squared lengths of 0.998, 0.999, 1.001 and 1.002.
+#[test]
+fn lengths_of_quaternions(rt: HostRuntime) {
+    assert_eq!(rt; length_of(100, 300, 1300, 9900), Some(JointFault::NotUnit));
+    assert_eq!(rt; length_of(200, 400, 1300, 9900), None);
+    assert_eq!(rt; length_of(0, 100, 300, 10_000), None);
+    assert_eq!(rt; length_of(0, 200, 400, 10_000), Some(JointFault::NotUnit));
+}
+
+// A length is tested before the rest of the rule, and one that passes the limit is not tested.
+#[test]
+fn faults_of_lengths(rt: HostRuntime) -> Result<(), Fail> {
+    let far = Iv::new(1 << 100, 1 << 100);
+    let zero = Iv::ZERO;
+    let level = Planar::new(world());
+    assert_eq!(rt;
+        level.place(&[far, zero, zero, zero]),
+        Err(JointFault::NotUnit)
+    );
+    assert_eq!(rt;
+        level.place(&[far, zero, Iv::ONE, zero]),
+        Err(JointFault::Size)
+    );
+    assert_eq!(rt;
+        level.place(&[zero, zero, far, zero]),
+        Err(JointFault::Size)
+    );
+    let free = Free::new(world());
+    assert_eq!(rt;
+        free.place(&[far, zero, zero, zero, zero, zero, zero]),
+        Err(JointFault::NotUnit)
+    );
+    assert_eq!(rt;
+        free.place(&[zero, zero, zero, far, zero, zero, zero]),
+        Err(JointFault::Size)
+    );
+    let hinge = Continuous::new(world(), vector(0, 0, 1))?;
+    assert_eq!(rt; hinge.place(&[zero, far]), Err(JointFault::Size));
+    Ok(())
 }
 
 #[test]
@@ -147,8 +352,11 @@ fn is_shared<T: Send + Sync>() {}
 #[test]
 fn types_are_shared(_rt: HostRuntime) {
     is_shared::<AnyJoint>();
+    is_shared::<Continuous>();
     is_shared::<Fixed>();
+    is_shared::<Free>();
     is_shared::<JointFault>();
+    is_shared::<Planar>();
     is_shared::<Prismatic>();
     is_shared::<Quaternion>();
     is_shared::<Revolute>();

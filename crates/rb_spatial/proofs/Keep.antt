@@ -10,7 +10,7 @@ use Rattle.rb_spatial.specs.Inertias.{blocks, mul_both, table, times, sum_table,
 use Rattle.rb_spatial.specs.Carrying.{row_mul, product, upper_product, less_row, less_product, corrected, correct, turn_symmetric, turn_table, carry}
 
 -- a choice of related values
-choice : {A B : Type 0} (rel : A → B → Type 0) (b : Bool) {x y : A} {x' y' : B} → rel x x' → rel y y' → rel (if b then x else y) (if b then x' else y')
+pub choice : {A B : Type 0} (rel : A → B → Type 0) (b : Bool) {x y : A} {x' y' : B} → rel x x' → rel y y' → rel (if b then x else y) (if b then x' else y')
 choice rel true h k = h
 choice rel false h k = k
 
@@ -159,7 +159,9 @@ module _ {R Q : Arith} (K : Relates R Q) where
 
   pub product_met : {s t : Table R.N} {s' t' : Table Q.N} → Tables K.rel s s' → Tables K.rel t t' → Met K (Tables K.rel) (product R s t) (product Q s' t')
   unfolding product
-  product_met hs ht = rows_met (row_mul_met hs.x ht) (row_mul_met hs.y ht) (row_mul_met hs.z ht)
+  product_met hs ht =
+      let columns = transpose_rel ht in
+      rows_met (row_mul_met hs.x columns) (row_mul_met hs.y columns) (row_mul_met hs.z columns)
 
   pub upper_product_met : {s t : Table R.N} {s' t' : Table Q.N} → Tables K.rel s s' → Tables K.rel t t' → Met K (Symmetrics K.rel) (upper_product R s t) (upper_product Q s' t')
   unfolding upper_product
@@ -172,7 +174,8 @@ module _ {R Q : Arith} (K : Relates R Q) where
   less_product_met : {b a r : Table R.N} {b' a' r' : Table Q.N} → Tables K.rel b b' → Tables K.rel a a' → Tables K.rel r r' → Met K (Tables K.rel) (less_product R b a r) (less_product Q b' a' r')
   unfolding less_product
   less_product_met hb ha hr =
-      rows_met (less_row_met hb.x ha.x hr) (less_row_met hb.y ha.y hr) (less_row_met hb.z ha.z hr)
+      let columns = transpose_rel hr in
+      rows_met (less_row_met hb.x ha.x columns) (less_row_met hb.y ha.y columns) (less_row_met hb.z ha.z columns)
 
   corrected_met : {c : R.N} {u p w q : V3 R.N} {c' : Q.N} {u' p' w' q' : V3 Q.N} → K.rel c c' → Vectors K.rel u u' → Vectors K.rel p p' → Vectors K.rel w w' → Vectors K.rel q q' → Met K K.rel (corrected R c u p w q) (corrected Q c' u' p' w' q')
   corrected_met hc hu hp hw hq = search (dot_met K, K.neg, K.one) depth 9

@@ -2,7 +2,7 @@
 -- Algorithms, chapter 2.
 use Rattle.std.specs.Prelude.{List, [], ◌∷◌}
 use Rattle.rb_frac.specs.Ops.{V3}
-use Rattle.rb_frac.specs.Tables.{Table, Symmetric, Tables, transpose, full, cross_table}
+use Rattle.rb_frac.specs.Tables.{Table, Symmetric, Tables, Symmetrics, transpose, full, cross_table}
 use Rattle.rb_frac.specs.Spatial.{Place, Inertia, Places, Inertias}
 use Rattle.rb_num.specs.Interval.{Interval}
 use Rattle.rb_num.specs.Fraction.{LiesIn}
@@ -12,14 +12,14 @@ use Rattle.rb_spatial.specs.Motions.{pairs, three, three_rows, six}
 
 module _ (R : Arith) where
   -- ---- products of tables
-  -- the vector, as a row, times the table
+  -- the vector, as a row, times the table of these columns
   unfoldable pub row_mul : V3 R.N → Table R.N → R.M (V3 R.N)
-  row_mul v t =
-      let columns = transpose t in
-      three R (R.dot (pairs v columns.x)) (R.dot (pairs v columns.y)) (R.dot (pairs v columns.z))
+  row_mul v columns = three R (R.dot (pairs v columns.x)) (R.dot (pairs v columns.y)) (R.dot (pairs v columns.z))
 
   unfoldable pub product : Table R.N → Table R.N → R.M (Table R.N)
-  product s t = three_rows R (row_mul s.x t) (row_mul s.y t) (row_mul s.z t)
+  product s t =
+      let columns = transpose t in
+      three_rows R (row_mul s.x columns) (row_mul s.y columns) (row_mul s.z columns)
 
   -- the entries of a symmetric product on and above the diagonal; `columns` has those of the second factor
   unfoldable pub upper_product : Table R.N → Table R.N → R.M (Symmetric R.N)
@@ -37,15 +37,16 @@ module _ (R : Arith) where
   abbrev pub less_pairs : R.N → V3 R.N → V3 R.N → List (R.N × R.N)
   less_pairs b v w = (b, R.one) ∷ (R.neg v.x, w.x) ∷ (R.neg v.y, w.y) ∷ (R.neg v.z, w.z) ∷ []
 
-  -- b - v t, where v is a row
+  -- b - v t, where v is a row and t has these columns
   unfoldable pub less_row : V3 R.N → V3 R.N → Table R.N → R.M (V3 R.N)
-  less_row b v t =
-      let columns = transpose t in
+  less_row b v columns =
       three R (R.dot (less_pairs b.x v columns.x)) (R.dot (less_pairs b.y v columns.y)) (R.dot (less_pairs b.z v columns.z))
 
   -- B - A R
   unfoldable pub less_product : Table R.N → Table R.N → Table R.N → R.M (Table R.N)
-  less_product b a r = three_rows R (less_row b.x a.x r) (less_row b.y a.y r) (less_row b.z a.z r)
+  less_product b a r =
+      let columns = transpose r in
+      three_rows R (less_row b.x a.x columns) (less_row b.y a.y columns) (less_row b.z a.z columns)
 
   -- c + u p - w q
   abbrev pub corrected : R.N → V3 R.N → V3 R.N → V3 R.N → V3 R.N → R.M R.N
@@ -85,6 +86,10 @@ module _ (R : Arith) where
 -- ---- what encloses them
 abbrev pub EnclosesProduct : Table Interval → Table Interval → Table Interval → Type 0
 EnclosesProduct s t r = EnclosesTwo (Tables LiesIn) (Tables LiesIn) (Tables LiesIn) (product fractions) s t r
+
+abbrev pub EnclosesUpperProduct : Table Interval → Table Interval → Symmetric Interval → Type 0
+EnclosesUpperProduct s columns r =
+    EnclosesTwo (Tables LiesIn) (Tables LiesIn) (Symmetrics LiesIn) (upper_product fractions) s columns r
 
 abbrev pub EnclosesCarry : Place Interval → Inertia Interval → Inertia Interval → Type 0
 EnclosesCarry x i r = EnclosesTwo (Places LiesIn) (Inertias LiesIn) (Inertias LiesIn) (carry fractions) x i r

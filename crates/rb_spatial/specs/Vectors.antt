@@ -1,6 +1,8 @@
 -- Vectors and tables of intervals, and the lists that the code keeps them in.
-use Rattle.std.specs.Prelude.{◌≡◌, List, [], ◌∷◌, length, refl}
+use Rattle.std.specs.Prelude.{◌≡◌, Bool, List, [], ◌∷◌, length, refl}
+use Rattle.std.specs.Ordering.{int_eq, on, eq_of_both}
 use Rattle.std.proofs.Common.{arith}
+use lib.Pointwise.{pointwise}
 use Rattle.rb_frac.specs.Ops.{V3}
 use Rattle.rb_frac.specs.Tables.{Table, Symmetric}
 use Rattle.rb_num.specs.Interval.{Interval, zero_interval}
@@ -18,6 +20,16 @@ table_of _ = record { x = vector_of []; y = vector_of []; z = vector_of [] }
 
 abbrev pub lists_of : Table Interval → List (List Interval)
 lists_of t = list_of t.x ∷ list_of t.y ∷ list_of t.z ∷ []
+
+-- whether two intervals have the same ends, two vectors the same parts, and two tables the same rows
+abbrev pub interval_eq : Interval → Interval → Bool
+interval_eq = eq_of_both (on (λ v. v.lo) int_eq) (on (λ v. v.hi) int_eq)
+
+abbrev pub vector_eq : V3 Interval → V3 Interval → Bool
+vector_eq = on list_of (pointwise interval_eq)
+
+abbrev pub table_eq : Table Interval → Table Interval → Bool
+table_eq = eq_of_both (on (λ t. t.x) vector_eq) (eq_of_both (on (λ t. t.y) vector_eq) (on (λ t. t.z) vector_eq))
 
 -- in the order of the rows
 abbrev pub symmetric_of : List Interval → Symmetric Interval

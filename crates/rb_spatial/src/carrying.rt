@@ -1,7 +1,7 @@
 ghost use Rattle.std.specs.Prelude.{◌≡◌, IfOk, IfErr};
 ghost use Rattle.rb_num.specs.Arith.{intervals};
 ghost use Rattle.rb_num.specs.Dot.{iv_dot};
-ghost use Rattle.rb_spatial.specs.Carrying.{EnclosesProduct, EnclosesCarry};
+ghost use Rattle.rb_spatial.specs.Carrying.{EnclosesProduct, EnclosesUpperProduct, EnclosesCarry};
 ghost use Rattle.rb_spatial.specs.Motions.{pairs};
 ghost use Rattle.rb_spatial.specs.Carrying.{less_pairs};
 ghost use Rattle.rb_spatial.specs.Carrying.{row_mul as row_mul_of, product as product_of, upper_product as upper_product_of};
@@ -14,6 +14,7 @@ use crate::motions::Place;
 use crate::vectors::{Mat3, Sym3, Vec3};
 use rb_num::{Iv, NumFault, dot};
 
+#[inline(always)]
 fn dot_three(u: &Vec3, w: &Vec3) -> Result<Iv, NumFault>
     ensures exact { result ≡ iv_dot (pairs u.now w.now) }
     ensures size { IfErr result (λ e. e ≡ NumFault.Size) }
@@ -21,13 +22,12 @@ fn dot_three(u: &Vec3, w: &Vec3) -> Result<Iv, NumFault>
     dot(&[(u.x(), w.x()), (u.y(), w.y()), (u.z(), w.z())])
 }
 
-// The vector, as a row, times the table.
+// The vector, as a row, times the table of these columns.
 #[tactic(auto, unfolding(crate::specs::Carrying::row_mul))]
-fn row_mul(v: &Vec3, t: &Mat3) -> Result<Vec3, NumFault>
-    ensures exact { result ≡ row_mul_of intervals v.now t.now }
+fn row_mul(v: &Vec3, columns: &Mat3) -> Result<Vec3, NumFault>
+    ensures exact { result ≡ row_mul_of intervals v.now columns.now }
     ensures size { IfErr result (λ e. e ≡ NumFault.Size) }
 {
-    let columns = t.transpose();
     let x = dot_three(v, &columns.x())?;
     let y = dot_three(v, &columns.y())?;
     let z = dot_three(v, &columns.z())?;
@@ -42,9 +42,10 @@ pub fn product(s: &Mat3, t: &Mat3) -> Result<Mat3, NumFault>
     ensures encloses { IfOk result (EnclosesProduct s.now t.now) }
     ensures size { IfErr result (λ e. e ≡ NumFault.Size) }
 {
-    let x = row_mul(&s.x(), t)?;
-    let y = row_mul(&s.y(), t)?;
-    let z = row_mul(&s.z(), t)?;
+    let columns = t.transpose();
+    let x = row_mul(&s.x(), &columns)?;
+    let y = row_mul(&s.y(), &columns)?;
+    let z = row_mul(&s.z(), &columns)?;
     Ok(Mat3::new(x, y, z))
 }
 
@@ -54,6 +55,7 @@ pub fn product(s: &Mat3, t: &Mat3) -> Result<Mat3, NumFault>
 #[tactic(auto, unfolding(crate::specs::Carrying::upper_product))]
 pub fn upper_product(s: &Mat3, columns: &Mat3) -> Result<Sym3, NumFault>
     ensures exact { result ≡ upper_product_of intervals s.now columns.now }
+    ensures encloses { IfOk result (EnclosesUpperProduct s.now columns.now) }
     ensures size { IfErr result (λ e. e ≡ NumFault.Size) }
 {
     let xx = dot_three(&s.x(), &columns.x())?;
@@ -73,6 +75,7 @@ pub fn upper_product(s: &Mat3, columns: &Mat3) -> Result<Sym3, NumFault>
 }
 
 // b - v w
+#[inline(always)]
 fn less_dot(b: Iv, v: &Vec3, w: &Vec3) -> Result<Iv, NumFault>
     ensures exact { result ≡ iv_dot (less_pairs intervals b v.now w.now) }
     ensures size { IfErr result (λ e. e ≡ NumFault.Size) }
@@ -85,13 +88,12 @@ fn less_dot(b: Iv, v: &Vec3, w: &Vec3) -> Result<Iv, NumFault>
     ])
 }
 
-// b - v t, where v is a row.
+// b - v t, where v is a row and t has these columns.
 #[tactic(auto, unfolding(crate::specs::Carrying::less_row))]
-fn less_row(b: &Vec3, v: &Vec3, t: &Mat3) -> Result<Vec3, NumFault>
-    ensures exact { result ≡ less_row_of intervals b.now v.now t.now }
+fn less_row(b: &Vec3, v: &Vec3, columns: &Mat3) -> Result<Vec3, NumFault>
+    ensures exact { result ≡ less_row_of intervals b.now v.now columns.now }
     ensures size { IfErr result (λ e. e ≡ NumFault.Size) }
 {
-    let columns = t.transpose();
     let x = less_dot(b.x(), v, &columns.x())?;
     let y = less_dot(b.y(), v, &columns.y())?;
     let z = less_dot(b.z(), v, &columns.z())?;
@@ -104,13 +106,15 @@ fn less_product(b: &Mat3, a: &Mat3, r: &Mat3) -> Result<Mat3, NumFault>
     ensures exact { result ≡ less_product_of intervals b.now a.now r.now }
     ensures size { IfErr result (λ e. e ≡ NumFault.Size) }
 {
-    let x = less_row(&b.x(), &a.x(), r)?;
-    let y = less_row(&b.y(), &a.y(), r)?;
-    let z = less_row(&b.z(), &a.z(), r)?;
+    let columns = r.transpose();
+    let x = less_row(&b.x(), &a.x(), &columns)?;
+    let y = less_row(&b.y(), &a.y(), &columns)?;
+    let z = less_row(&b.z(), &a.z(), &columns)?;
     Ok(Mat3::new(x, y, z))
 }
 
 // c + u p - w q
+#[inline(always)]
 fn corrected(c: Iv, u: &Vec3, p: &Vec3, w: &Vec3, q: &Vec3) -> Result<Iv, NumFault>
     ensures exact { result ≡ corrected_of intervals c u.now p.now w.now q.now }
     ensures size { IfErr result (λ e. e ≡ NumFault.Size) }

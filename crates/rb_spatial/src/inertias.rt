@@ -16,7 +16,7 @@ use std::marker::Model;
 
 /// A body: its mass, its first moment (mass times centre), and its rotational inertia about the
 /// origin in the order xx, xy, xz, yy, yz, zz.
-#[derive(Clone, Copy, Debug)]
+#[derive(Clone, Copy, Debug, PartialEq, Eq)]
 pub struct BodyInertia {
     pub mass: Iv,
     pub first: Vec3,
@@ -65,7 +65,7 @@ impl BodyInertia {
 
 /// A symmetric table of six rows, from motions to forces: `a` beside `b`, and under them the
 /// transpose of `b` beside `c`.
-#[derive(Clone, Copy, Debug)]
+#[derive(Clone, Copy, Debug, PartialEq, Eq)]
 pub struct Inertia6 {
     pub a: Sym3,
     pub b: Mat3,
@@ -127,6 +127,7 @@ pub fn table(i: &BodyInertia) -> Inertia6
     }
 }
 
+#[inline(always)]
 fn dot_six(u: &Vec3, p: &Vec3, w: &Vec3, q: &Vec3) -> Result<Iv, NumFault>
     ensures exact { result ≡ iv_dot (six_pairs u.now p.now w.now q.now) }
     ensures size { IfErr result (λ e. e ≡ NumFault.Size) }
@@ -215,6 +216,7 @@ pub fn sum(a: &Inertia6, b: &Inertia6) -> Result<Inertia6, NumFault>
 }
 
 // i - u w
+#[inline(always)]
 fn less(i: Iv, u: Iv, w: Iv) -> Result<Iv, NumFault>
     ensures exact { result ≡ less_of intervals i u w }
     ensures size { IfErr result (λ e. e ≡ NumFault.Size) }

@@ -46,7 +46,7 @@ impl Model for Force {
 }
 
 /// A frame: its rotation and its origin, in the frame that it stands in.
-#[derive(Clone, Copy, Debug)]
+#[derive(Clone, Copy, Debug, PartialEq, Eq)]
 pub struct Frame {
     pub rot: Mat3,
     pub at: Vec3,
@@ -65,7 +65,7 @@ impl Model for Frame {
 
 /// Where a body stands to its parent: `e` turns the parent's vectors into the body's, and `r` is
 /// the body's origin in the parent.
-#[derive(Clone, Copy, Debug)]
+#[derive(Clone, Copy, Debug, PartialEq, Eq)]
 pub struct Place {
     pub e: Mat3,
     pub r: Vec3,

@@ -3,7 +3,6 @@ use crate::{
     cross, cross_dual, less_outer, power, sum, table, times,
 };
 use rb_num::{Iv, NumFault};
-use std::process::Abort;
 use std::test::Fail;
 
 // The whole number `n`.
@@ -67,14 +66,6 @@ fn body(mass: i32, first: (i32, i32, i32), six: [i32; 6]) -> BodyInertia {
 // Mass 2, first moment (1, 2, 3), and six numbers that are all different.
 fn some_body() -> BodyInertia {
     body(2, (1, 2, 3), [10, 1, 2, 20, 3, 30])
-}
-
-fn assert_same(rt: &impl Abort, got: &Inertia6, want: &Inertia6) {
-    for r in 0..6 {
-        for c in 0..6 {
-            assert_eq!(rt; got.get(r, c), want.get(r, c), "row {r}, column {c}");
-        }
-    }
 }
 
 #[test]
@@ -141,11 +132,9 @@ fn inertias(rt: HostRuntime) -> Result<(), Fail> {
     let m = motion((3, 2, 1), (4, 5, 6));
     assert_eq!(rt; times(&i, &m)?, force((9, -2, 5), (53, 130, 199)));
 
-    assert_same(
-        &rt,
-        &sum(&i, &i)?,
-        &table(&body(4, (2, 4, 6), [20, 2, 4, 40, 6, 60])),
-    );
+    let twice = body(4, (2, 4, 6), [20, 2, 4, 40, 6, 60]);
+    assert_eq!(rt; sum(&i, &i)?, table(&twice));
+    assert_ne!(rt; twice, some_body());
 
     let less = less_outer(
         &i,
@@ -177,7 +166,7 @@ fn carried_body(rt: HostRuntime) -> Result<(), Fail> {
         body(2, (2, 6, 6), [38, -6, -6, 21, -18, 23]),
     ];
     for (place, want) in quarter_turns().iter().zip(wanted.iter()) {
-        assert_same(&rt, &carry(place, &i)?, &table(want));
+        assert_eq!(rt; carry(place, &i)?, table(want));
     }
     Ok(())
 }
@@ -235,7 +224,7 @@ fn refusals(rt: HostRuntime) -> Result<(), Fail> {
 
     // The limit itself is no refusal.
     let none = table(&body(0, (0, 0, 0), [0, 0, 0, 0, 0, 0]));
-    assert_same(&rt, &sum(&heavy, &none)?, &heavy);
+    assert_eq!(rt; sum(&heavy, &none)?, heavy);
     Ok(())
 }
 

@@ -29,6 +29,7 @@ impl Model for Vec3 {
 
 impl Vec3 {
     /// The vector of these parts.
+    #[inline]
     pub fn new(x: Iv, y: Iv, z: Iv) -> Vec3
         ensures { result ≡ record { x = x; y = y; z = z } }
     {
@@ -36,6 +37,7 @@ impl Vec3 {
     }
 
     /// The part along x.
+    #[inline]
     pub fn x(&self) -> Iv
         ensures { result ≡ self.now.x }
     {
@@ -43,6 +45,7 @@ impl Vec3 {
     }
 
     /// The part along y.
+    #[inline]
     pub fn y(&self) -> Iv
         ensures { result ≡ self.now.y }
     {
@@ -50,6 +53,7 @@ impl Vec3 {
     }
 
     /// The part along z.
+    #[inline]
     pub fn z(&self) -> Iv
         ensures { result ≡ self.now.z }
     {
@@ -57,6 +61,7 @@ impl Vec3 {
     }
 
     /// Component `k`, from 0.
+    #[inline]
     pub fn component(&self, k: usize) -> Iv
         requires { k < 3 }
         ensures { result ≡ component_of self.now k }
@@ -69,6 +74,7 @@ impl Vec3 {
     }
 
     /// The table of the cross product with this vector.
+    #[inline]
     pub fn cross_table(&self) -> Mat3
         ensures { result ≡ cross_table_of (signs_of intervals) self.now }
     {
@@ -102,8 +108,30 @@ impl Model for Mat3 {
     ghost inverse_ok = { λ a h. ap (λ (l : List (List Interval)). record { 0 = l }) (lists_of-table_of a.0 h) };
 }
 
+impl PartialEq for Mat3 {
+    ghost use Rattle.std.proofs.Common.{rules};
+    ghost use Rattle.std.specs.Cmp.Rules.{comparing};
+    ghost use Rattle.rb_spatial.specs.Vectors.{table_eq};
+
+    ghost eq = { table_eq };
+
+    ghost laws = { Prim.search (comparing, rules) depth 12 };
+
+    fn eq(&self, other: &Mat3) -> bool {
+        self.x() == other.x() && self.y() == other.y() && self.z() == other.z()
+    }
+}
+
+impl Eq for Mat3 {
+    ghost use Rattle.std.proofs.Common.{rules};
+    ghost use Rattle.std.specs.Cmp.Rules.{comparing};
+
+    ghost laws = { Prim.search (comparing, rules) depth 12 };
+}
+
 impl Mat3 {
     /// The table of these rows.
+    #[inline]
     pub fn new(x: Vec3, y: Vec3, z: Vec3) -> Mat3
         ensures { result ≡ record { x = x; y = y; z = z } }
     {
@@ -115,6 +143,7 @@ impl Mat3 {
     }
 
     /// The first row.
+    #[inline]
     pub fn x(&self) -> Vec3
         ensures { result ≡ self.now.x }
     {
@@ -122,6 +151,7 @@ impl Mat3 {
     }
 
     /// The second row.
+    #[inline]
     pub fn y(&self) -> Vec3
         ensures { result ≡ self.now.y }
     {
@@ -129,6 +159,7 @@ impl Mat3 {
     }
 
     /// The third row.
+    #[inline]
     pub fn z(&self) -> Vec3
         ensures { result ≡ self.now.z }
     {
@@ -136,6 +167,7 @@ impl Mat3 {
     }
 
     /// Row `k`, from 0.
+    #[inline]
     pub fn row(&self, k: usize) -> Vec3
         requires { k < 3 }
         ensures { result ≡ row_of self.now k }
@@ -148,6 +180,7 @@ impl Mat3 {
     }
 
     /// The table whose rows are the columns of this one.
+    #[inline]
     pub fn transpose(&self) -> Mat3
         ensures { result ≡ transpose_of self.now }
     {
@@ -161,7 +194,7 @@ impl Mat3 {
 }
 
 /// A symmetric table of three rows: its entries on and above the diagonal.
-#[derive(Clone, Copy, Debug)]
+#[derive(Clone, Copy, Debug, PartialEq, Eq)]
 pub struct Sym3 {
     pub xx: Iv,
     pub xy: Iv,
@@ -184,6 +217,7 @@ impl Model for Sym3 {
 
 impl Sym3 {
     /// All nine entries.
+    #[inline]
     pub fn full(&self) -> Mat3
         ensures { result ≡ full_of self.now }
     {

@@ -1,7 +1,7 @@
 use Rattle.std.proofs.Common.{rules}
 use Rattle.rb_joint.specs.Frames.{frame_by}
 use Rattle.rb_joint.proofs.Choices.{frame_answer}
-use Rattle.rb_joint.proofs.Ranges.{frame_range}
+use Rattle.rb_joint.proofs.Ranges.{frame_range, frame_not_unit}
 use Rattle.rb_joint.proofs.frames.frame_of.Goals as goal
 
 pub returns-clause-encloses : goal.returns-clause-encloses
@@ -27,3 +27,19 @@ returns-in_err-rot-clause-range c = frame_range c.args.xyz.now c.args.rpy.now _ 
 pub returns-clause-range : goal.returns-clause-range
 unfolding frame_by
 returns-clause-range c = frame_range c.args.xyz.now c.args.rpy.now _ (search rules)
+
+pub returns-in_err-roll-clause-faults : goal.returns-in_err-roll-clause-faults
+unfolding frame_by
+returns-in_err-roll-clause-faults c = frame_not_unit c.args.xyz.now c.args.rpy.now _ (search rules)
+
+pub returns-in_err-pitch-clause-faults : goal.returns-in_err-pitch-clause-faults
+unfolding frame_by
+returns-in_err-pitch-clause-faults c = frame_not_unit c.args.xyz.now c.args.rpy.now _ (search rules)
+
+pub returns-in_err-yaw-clause-faults : goal.returns-in_err-yaw-clause-faults
+unfolding frame_by
+returns-in_err-yaw-clause-faults c = frame_not_unit c.args.xyz.now c.args.rpy.now _ (search rules)
+
+pub returns-in_err-rot-clause-faults : goal.returns-in_err-rot-clause-faults
+unfolding frame_by
+returns-in_err-rot-clause-faults c = frame_not_unit c.args.xyz.now c.args.rpy.now _ (search rules)
