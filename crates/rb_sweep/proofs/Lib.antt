@@ -1,0 +1,6 @@
+pub mod SweepSteps
+pub mod SweepLaws
+pub mod Climbing
+pub mod NamingLaws
+pub mod Told
+pub mod Below

@@ -1,0 +1,4 @@
+pub mod PathLaws
+pub mod Sizes
+pub mod PlaceLaws
+pub mod PathSteps
