@@ -1,4 +1,5 @@
--- How the faults of the crates below are those of a body.
+-- How the faults of the crates below are those of a body, and the words of these.
+use Rattle.std.specs.Prelude.{ℕ, List, codes}
 use Rattle.rb_num.specs.declared.interval.NumFault.{NumFault}
 use Rattle.rb_trig.specs.declared.axis.AxisFault.{AxisFault}
 use Rattle.rb_trig.specs.declared.axis.AxisFault.TheVariants as Axis
@@ -10,6 +11,8 @@ use Rattle.rb_body.specs.declared.faults.BodyFault.TheVariants.{AngleRange, Zero
 abbrev pub of_frame : JointFault → BodyFault
 of_frame Joint.Range = AngleRange
 of_frame Joint.Size = Size
+-- no frame is refused so
+of_frame Joint.NotUnit = Size
 
 abbrev pub of_axis : AxisFault → BodyFault
 of_axis Axis.Size = Size
@@ -17,3 +20,8 @@ of_axis Axis.ZeroAxis = ZeroAxis
 
 abbrev pub of_number : NumFault → BodyFault
 of_number e = Size
+
+abbrev pub word_of : BodyFault → List ℕ
+word_of AngleRange = codes "AngleRange"
+word_of ZeroAxis = codes "ZeroAxis"
+word_of Size = codes "Size"

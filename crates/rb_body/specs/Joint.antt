@@ -16,13 +16,12 @@ use Rattle.rb_flat.specs.Choice.{JointChosen}
 use Rattle.rb_joint.specs.declared.any.AnyJoint.{AnyJoint}
 use Rattle.rb_joint.specs.declared.any.AnyJoint.TheVariants as Variant
 use Rattle.rb_joint.specs.Frames.{frame_by}
-use Rattle.rb_joint.specs.Models.{axial_by}
+use Rattle.rb_joint.specs.Models.{Axial, axial_by}
 use Rattle.rb_joint.specs.Any as Model
 use Rattle.rb_urdf.specs.declared.robot.UrdfKind.{UrdfKind}
-use Rattle.rb_urdf.specs.declared.robot.UrdfKind.TheVariants.{Fixed, Revolute, Prismatic}
+use Rattle.rb_urdf.specs.declared.robot.UrdfKind.TheVariants.{Fixed, Revolute, Prismatic, Continuous, Planar, Floating}
 use Rattle.rb_urdf.specs.Numbers.{zeros}
 use Rattle.rb_body.specs.declared.faults.BodyFault.{BodyFault}
-use Rattle.rb_body.specs.declared.faults.BodyFault.TheVariants.{Size}
 use Rattle.rb_body.specs.declared.raw.JointRaw.{JointRaw}
 use Rattle.rb_body.specs.Faults.{of_frame, of_axis, of_number}
 use Rattle.rb_body.specs.Raw.{kind_of, HasAxis, joint_brackets}
@@ -39,25 +38,34 @@ Answer = Result (AnyJoint × JointRaw) BodyFault
 abbrev pub raw : UrdfKind → List Interval → List Interval → List Interval → Interval → JointRaw
 raw kind xyz rpy axis k = record { kind = kind; xyz = xyz; rpy = rpy; axis = axis; factor = k }
 
-unfoldable pub fixed_by : Frame Interval → List Interval → List Interval → AnyJoint × JointRaw
-fixed_by f xyz rpy = (Variant.Fixed (record { frame = f }), raw Fixed xyz rpy zeros zero_interval)
+-- of a kind without an axis
+unfoldable pub plain_by : UrdfKind → AnyJoint → List Interval → List Interval → AnyJoint × JointRaw
+plain_by kind m xyz rpy = (m, raw kind xyz rpy zeros zero_interval)
 
-unfoldable pub revolute_by : Frame Interval → List Interval → List Interval → List Interval → Answer
-revolute_by f xyz rpy axis =
-    axis_by (vector_of axis) >>= λ a.
-    told_as of_number (axial_by f a.1) >>= λ m.
-    Ok (Variant.Revolute m, raw Revolute xyz rpy axis a.0)
+-- of a hinge, which may have an angle or its cosine and sine
+abbrev pub hinge : UrdfKind → Axial → AnyJoint
+hinge Continuous m = Variant.Continuous m
+hinge _ m = Variant.Revolute m
 
-unfoldable pub prismatic_by : Frame Interval → List Interval → List Interval → List Interval → Answer
-prismatic_by f xyz rpy axis =
+unfoldable pub hinge_model : UrdfKind → Frame Interval → V3 Interval → Result AnyJoint BodyFault
+hinge_model kind f a = told_as of_number (axial_by f a) >>= λ m. Ok (hinge kind m)
+
+unfoldable pub hinge_by : UrdfKind → Frame Interval → List Interval → List Interval → List Interval → Answer
+hinge_by kind f xyz rpy axis =
+    axis_by (vector_of axis) >>= λ a. hinge_model kind f a.1 >>= λ m. Ok (m, raw kind xyz rpy axis a.0)
+
+unfoldable pub slider_by : Frame Interval → List Interval → List Interval → List Interval → Answer
+slider_by f xyz rpy axis =
     axis_by (vector_of axis) >>= λ a. Ok (Variant.Prismatic (record { frame = f; axis = a.1 }), raw Prismatic xyz rpy axis a.0)
 
--- in the frame; a kind without a model is asked for by no call
+-- in the frame
 abbrev pub joint_in : UrdfKind → Frame Interval → List Interval → List Interval → List Interval → Answer
-joint_in Fixed f xyz rpy axis = Ok (fixed_by f xyz rpy)
-joint_in Revolute f xyz rpy axis = revolute_by f xyz rpy axis
-joint_in Prismatic f xyz rpy axis = prismatic_by f xyz rpy axis
-joint_in _ f xyz rpy axis = Err Size
+joint_in Fixed f xyz rpy axis = Ok (plain_by Fixed (Variant.Fixed (record { frame = f })) xyz rpy)
+joint_in Revolute f xyz rpy axis = hinge_by Revolute f xyz rpy axis
+joint_in Prismatic f xyz rpy axis = slider_by f xyz rpy axis
+joint_in Continuous f xyz rpy axis = hinge_by Continuous f xyz rpy axis
+joint_in Planar f xyz rpy axis = Ok (plain_by Planar (Variant.Planar (record { frame = f })) xyz rpy)
+joint_in Floating f xyz rpy axis = Ok (plain_by Floating (Variant.Free (record { frame = f })) xyz rpy)
 
 unfoldable pub joint_by : UrdfKind → List Interval → List Interval → List Interval → Answer
 joint_by kind xyz rpy axis =

@@ -17,15 +17,6 @@ kind_of Continuous = Flat.Continuous
 kind_of Planar = Flat.Planar
 kind_of Floating = Flat.Free
 
--- there is a model for joints of the kind
-abbrev pub HasModel : UrdfKind → Type 0
-HasModel Fixed = Unit {0}
-HasModel Revolute = Unit {0}
-HasModel Prismatic = Unit {0}
-HasModel Continuous = ⊥
-HasModel Planar = ⊥
-HasModel Floating = ⊥
-
 -- joints of the kind have an axis
 abbrev pub HasAxis : UrdfKind → Type 0
 HasAxis Fixed = ⊥

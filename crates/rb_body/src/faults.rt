@@ -3,6 +3,8 @@ ghost use Rattle.std.specs.Prelude.{◌≡◌};
 use rb_joint::JointFault;
 use rb_num::NumFault;
 use rb_trig::AxisFault;
+use std::error::Error;
+use std::fmt;
 
 /// Why a body has no constants.
 #[derive(Clone, Copy, Debug, PartialEq, Eq)]
@@ -15,6 +17,34 @@ pub enum BodyFault {
     Size,
 }
 
+impl BodyFault {
+    ghost use Rattle.rb_body.specs.Faults.{word_of};
+
+    /// Its word.
+    pub fn word(self) -> &'static str
+        ensures { result.now ≡ word_of self }
+    {
+        match self {
+            BodyFault::AngleRange => "AngleRange",
+            BodyFault::ZeroAxis => "ZeroAxis",
+            BodyFault::Size => "Size",
+        }
+    }
+}
+
+impl fmt::Display for BodyFault {
+    ghost use Rattle.std.specs.Prelude.{Some};
+    ghost use Rattle.rb_body.specs.Faults.{word_of};
+
+    ghost output = { λ fault. Some (word_of fault) };
+
+    fn fmt<W: fmt::Write>(&self, f: &mut fmt::Formatter<W>) -> fmt::Result {
+        f.write_str(self.word())
+    }
+}
+
+impl Error for BodyFault {}
+
 impl From<JointFault> for BodyFault {
     ghost use Rattle.rb_body.specs.Faults.{of_frame};
 
@@ -23,7 +53,7 @@ impl From<JointFault> for BodyFault {
     fn from(fault: JointFault) -> BodyFault {
         match fault {
             JointFault::Range => BodyFault::AngleRange,
-            JointFault::Size => BodyFault::Size,
+            JointFault::Size | JointFault::NotUnit => BodyFault::Size,
         }
     }
 }

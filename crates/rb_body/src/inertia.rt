@@ -1,13 +1,13 @@
 ghost use Rattle.std.specs.Prelude.{◌≡◌, ◌↔◌, IfOk, IfErr, IsErrOf};
 ghost use Rattle.rb_num.specs.Arith.{intervals};
-ghost use Rattle.rb_spatial.specs.Vectors.{vector_of, symmetric_of};
+ghost use Rattle.rb_spatial.specs.Vectors.{vector_of};
 ghost use Rattle.rb_joint.specs.Frames.{AreAngles};
 ghost use Rattle.rb_body.specs.Raw.{link_brackets};
 ghost use Rattle.rb_body.specs.Inertia.{turned as turned_of, moved as moved_of, body as body_of, inertia_by, EnclosesInertia};
 
 use crate::faults::BodyFault;
 use crate::raw::LinkRaw;
-use crate::vectors::vector;
+use crate::vectors::{table, vector};
 use rb_joint::frame_of;
 use rb_num::{Iv, NumFault, dot};
 use rb_spatial::{BodyInertia, Mat3, Sym3, Vec3, multiple, product, upper_product};
@@ -59,20 +59,6 @@ fn body(r: &Mat3, mass: Iv, centre: &Vec3, j: &Sym3) -> Result<BodyInertia, NumF
         first,
         [six.xx, six.xy, six.xz, six.yy, six.yz, six.zz],
     ))
-}
-
-// The six numbers as a table.
-fn table(six: &[Iv; 6]) -> Sym3
-    ensures { result ≡ symmetric_of six.now }
-{
-    Sym3 {
-        xx: six[0],
-        xy: six[1],
-        xz: six[2],
-        yy: six[3],
-        yz: six[4],
-        zz: six[5],
-    }
 }
 
 /// The inertia that a link gives its body: its mass, its first moment, and its rotational inertia

@@ -12,7 +12,10 @@ mod vectors;
 pub use faults::BodyFault;
 pub use inertia::inertia_of;
 pub use joint::joint_of;
-pub use raw::{JointRaw, LinkRaw, has_model};
+pub use raw::{JointRaw, LinkRaw};
+pub use rb_joint::AnyJoint;
+pub use rb_spatial::BodyInertia;
+pub use rb_urdf::UrdfKind;
 
 #[cfg(test)]
 mod tests;

@@ -1,18 +1,8 @@
-ghost use Rattle.std.specs.Prelude.{IsTrue, ◌↔◌};
-ghost use Rattle.rb_body.specs.Raw.{HasModel};
+ghost use Rattle.rb_flat.specs.Choice.{LinkOrdered, JointOrdered};
 
+use crate::vectors::{six_in_order, three_in_order};
 use rb_num::Iv;
 use rb_urdf::UrdfKind;
-
-/// Whether `joint_of` takes joints of this kind.
-pub fn has_model(kind: UrdfKind) -> bool
-    ensures { IsTrue result ↔ HasModel kind }
-{
-    matches!(
-        kind,
-        UrdfKind::Fixed | UrdfKind::Revolute | UrdfKind::Prismatic
-    )
-}
 
 /// The brackets of a link (URDF `inertial`): mass in kilograms, centre of mass in metres, roll,
 /// pitch and yaw of the axes of its inertia in radians, and its inertia about the centre along these
@@ -35,4 +25,32 @@ pub struct JointRaw {
     pub rpy: [Iv; 3],
     pub axis: [Iv; 3],
     pub factor: Iv,
+}
+
+impl LinkRaw {
+    ghost use Rattle.rb_body.specs.Raw.{link_brackets};
+
+    /// The ends of each bracket are in order, as those of each interval are.
+    pub fn in_order(&self)
+        ensures { LinkOrdered (link_brackets self.now) }
+    {
+        let _bound = self.mass.lo();
+        three_in_order(&self.com);
+        three_in_order(&self.rpy);
+        six_in_order(&self.six);
+    }
+}
+
+impl JointRaw {
+    ghost use Rattle.rb_body.specs.Raw.{joint_brackets};
+
+    /// The ends of each bracket are in order, as those of each interval are.
+    pub fn in_order(&self)
+        ensures { JointOrdered (joint_brackets self.now) }
+    {
+        three_in_order(&self.xyz);
+        three_in_order(&self.rpy);
+        three_in_order(&self.axis);
+        let _bound = self.factor.lo();
+    }
 }

@@ -1,5 +1,3 @@
-ghost use Rattle.rb_body.specs.Raw.{HasModel};
-
 use crate::{BodyFault, JointRaw, LinkRaw, inertia_of, joint_of};
 use rb_joint::{AnyJoint, JointModel};
 use rb_num::{Iv, S};
@@ -98,14 +96,15 @@ fn refused_links(rt: HostRuntime) {
 }
 
 // The factor of the axis two metres along z, and the axis of the model.
-fn along_z(kind: UrdfKind) -> Option<(Iv, Vec3)>
-    requires { HasModel kind }
-{
+fn along_z(kind: UrdfKind) -> Option<(Iv, Vec3)> {
     let (joint, raw) = joint_of(kind, three([1, 2, 3]), three([0, 0, 0]), three([0, 0, 2])).ok()?;
     match joint {
         AnyJoint::Fixed(m) => Some((raw.factor, m.column(0).lin)),
         AnyJoint::Revolute(m) => Some((raw.factor, m.column(0).ang)),
+        AnyJoint::Continuous(m) => Some((raw.factor, m.column(0).ang)),
         AnyJoint::Prismatic(m) => Some((raw.factor, m.column(0).lin)),
+        AnyJoint::Planar(m) => Some((raw.factor, m.column(0).lin)),
+        AnyJoint::Free(m) => Some((raw.factor, m.column(5).ang)),
     }
 }
 
@@ -115,7 +114,10 @@ fn axes_of_length_one(rt: HostRuntime) {
     let z = vector([0, 0, 1]);
     assert!(rt; along_z(UrdfKind::Revolute) == Some((half, z)));
     assert!(rt; along_z(UrdfKind::Prismatic) == Some((half, z)));
+    assert!(rt; along_z(UrdfKind::Continuous) == Some((half, z)));
     assert!(rt; along_z(UrdfKind::Fixed) == Some((Iv::ZERO, vector([0, 0, 0]))));
+    assert!(rt; along_z(UrdfKind::Planar) == Some((Iv::ZERO, vector([1, 0, 0]))));
+    assert!(rt; along_z(UrdfKind::Floating) == Some((Iv::ZERO, z)));
 }
 
 #[test]
@@ -123,6 +125,10 @@ fn refused_joints(rt: HostRuntime) {
     let nothing = three([0, 0, 0]);
     let zero = joint_of(UrdfKind::Revolute, nothing, nothing, nothing);
     assert!(rt; matches!(zero, Err(BodyFault::ZeroAxis)));
+    let spun = joint_of(UrdfKind::Continuous, nothing, nothing, nothing);
+    assert!(rt; matches!(spun, Err(BodyFault::ZeroAxis)));
+    let free = joint_of(UrdfKind::Floating, nothing, nothing, nothing);
+    assert!(rt; matches!(free, Ok((AnyJoint::Free(_), _))));
     let still = joint_of(UrdfKind::Fixed, nothing, nothing, nothing);
     assert!(rt; matches!(still, Ok((AnyJoint::Fixed(_), _))));
     let long = joint_of(

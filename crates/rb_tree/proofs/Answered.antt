@@ -1,5 +1,5 @@
 -- What the answer of a test tells, and what holds of each number below the next.
-use Rattle.std.proofs.Common.{◌≡◌, ◌<◌, ◌≤◌, ◌+◌, ℕ, Bool, true, false, IsTrue, ◌↔◌, ◌⊎◌, arith, inl, inr, subst, sym}
+use Rattle.std.proofs.Common.{◌≡◌, ◌<◌, ◌≤◌, ◌+◌, ℕ, Bool, true, false, IsTrue, ◌↔◌, Option, None, Some, is_some, refl, ◌⊎◌, arith, inl, inr, subst, sym}
 use Rattle.std.proofs.Math.Nat.{eq-or-lt_of_le}
 
 pub holds : (b : Bool) (P : Type 0) → (IsTrue b ↔ P) → b ≡ true → P
@@ -18,3 +18,7 @@ below_or_last k m h =
 pub more_from : (P : ℕ → Type 0) (low n : ℕ) → ((k : ℕ) → low ≤ k → k < n → P k) → P n → (k : ℕ) → low ≤ k → k < n + 1 → P k
 more_from P low n below here k least high =
     elim (below_or_last k n high) [ inl lt ↦ below k least lt | inr e ↦ subst P (sym e) here ]
+
+pub none_is : {A : Type 0} (o : Option A) → is_some o ≡ false → o ≡ None
+none_is None h = refl
+none_is (Some x) h = cc

@@ -58,6 +58,24 @@ pub entry_small : (bodies : List Body) (k : ℕ) → (start_behind bodies k).ent
 unfolding start_behind
 entry_small bodies k = sum_small own_entries (λ b. unless_le b.mimic _ 7 (few_entries (kind_of b.joint))) bodies k
 
+-- at most two entries for each column
+two_each : (k : Kind) → Flat.entry_count k ≤ 2 * Flat.column_count k
+two_each Flat.Fixed = omega arith
+two_each Flat.Revolute = omega arith
+two_each Flat.Continuous = omega arith
+two_each Flat.Prismatic = omega arith
+two_each Flat.Planar = omega arith
+two_each Flat.Free = omega arith
+
+unless_two : (m : Option Mimic) (entries columns : ℕ) → entries ≤ 2 * columns → unless_mimic m entries ≤ 2 * unless_mimic m columns
+unless_two None entries columns h = h
+unless_two (Some m) entries columns h = omega arith
+
+pub entries_by_columns : (bodies : List Body) → sum_by own_entries bodies ≤ 2 * sum_by own_columns bodies
+entries_by_columns [] = omega arith
+entries_by_columns (b ∷ bodies) =
+    omega (arith, unless_two b.mimic _ _ (two_each (kind_of b.joint)), entries_by_columns bodies, sum_by-cons own_entries b bodies, sum_by-cons own_columns b bodies)
+
 -- the sum of one more
 pub sum_more : (f : Body → ℕ) (bodies : List Body) (k : ℕ) (b : Body) → slice_get bodies k ≡ Some b → sum_by f (take (suc k) bodies) ≡ sum_by f (take k bodies) + f b
 sum_more f [] k b h = cc

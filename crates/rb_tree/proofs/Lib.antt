@@ -20,3 +20,9 @@ pub mod Root
 pub mod MakingLaws
 pub mod OneRobot
 pub mod Shapes
+pub mod StateLaws
+pub mod NameLaws
+pub mod Ordering
+pub mod Entries
+pub mod PlacePass
+pub mod PlaceEncloses

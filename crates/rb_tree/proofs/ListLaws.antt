@@ -1,12 +1,14 @@
 -- Lists that grow at the end, and pairs of lists, item by item.
-use Rattle.std.proofs.Common.{◌≡◌, ◌≢◌, ℕ, zero, suc, ◌+◌, ◌<◌, List, [], ◌∷◌, ◌++◌, length, map, AllPairs, Some, inl, inr, refl, sym, ◌∙◌, ap, subst, arith, get_or}
-use Rattle.std.specs.List.{slice_get, sum_by, AllByRecursion, AllZip}
+use Rattle.std.proofs.Common.{◌≡◌, ◌≢◌, ℕ, zero, suc, ◌+◌, ◌<◌, List, [], ◌∷◌, ◌++◌, length, take, map, AllPairs, Some, inl, inr, refl, sym, ◌∙◌, ap, subst, arith, get_or}
+use Rattle.std.specs.List.{slice_get, sum_by, Any, AllByRecursion, AllZip}
 use Rattle.std.proofs.lemmas.Bool.{cases_order}
-use Rattle.std.proofs.lemmas.List.{length-append}
+use Rattle.std.proofs.lemmas.List.{length-append, length-take, length-take-le, get_or-take, take_all, take_more}
+use Rattle.std.proofs.lemmas.List.Quantifiers.{all_pairs_push}
 use Rattle.std.proofs.lemmas.List.Sums.{sum_by-cons}
 use Rattle.std.proofs.lemmas.Option.{get_or_from_slice_get, slice_get_within, same_Some}
 use Rattle.rb_urdf.proofs.Zips.{slice_get-to_map}
 use Rattle.rb_tree.specs.Columns.{IsListOf}
+use Rattle.rb_tree.proofs.Stems.{read_same}
 use Rattle.rb_tree.proofs.Answered.{below_or_last}
 
 pub slice_get-append_left : {X : Type 0} (xs ys : List X) (k : ℕ) → k < length xs → slice_get (xs ++ ys) k ≡ slice_get xs k
@@ -85,3 +87,32 @@ module _ {A B : Type 0} (f : A → B) (xs : List A) where
           | inr more ↦ apart_later j i b a differ more q p (sym e)
         ]
       ]
+
+-- an item that stands in a relation to an earlier one stands not among items of which no two do
+pub pair_below : {X : Type 0} (R : X → X → Type 0) (xs : List X) (number end : ℕ) (x : X) → slice_get xs number ≡ Some x → Any (λ y. R y x) (take number xs) → number < end →
+    AllPairs (λ a b. R a b → ⊥) (take end xs) → ⊥
+pair_below {X = X} R xs number end x is (j, earlier, in_front, at_j, r) low none =
+    let within = slice_get_within xs number x is in
+    let lt : j < number = omega (arith, length-take-le {A = X} number xs (omega arith)) in
+    let high : number < length (take end xs) = omega (arith, length-take {A = X} end xs) in
+    let first : get_or (take end xs) j earlier ≡ earlier = get_or-take end xs j earlier (omega arith) ∙ sym (get_or-take number xs j earlier lt) ∙ at_j in
+    let second : get_or (take end xs) number earlier ≡ x = get_or-take end xs number earlier low ∙ get_or_from_slice_get xs number x earlier is in
+    let P : X → Type 0 = λ a. R a (get_or (take end xs) number earlier) in
+    let Q : X → Type 0 = λ b. R earlier b in
+    none j number earlier lt high (subst P (sym first) (subst Q (sym second) r))
+
+-- nor in the whole list
+pub pair_in : {X : Type 0} (R : X → X → Type 0) (xs : List X) (number : ℕ) (x : X) → slice_get xs number ≡ Some x → Any (λ y. R y x) (take number xs) →
+    AllPairs (λ a b. R a b → ⊥) xs → ⊥
+pair_in {X = X} R xs number x is twice none =
+    let P : List X → Type 0 = λ ys. AllPairs (λ a b. R a b → ⊥) ys in
+    pair_below R xs number (length xs) x is twice (slice_get_within xs number x is) (subst P (sym (take_all (length xs) xs (omega arith))) none)
+
+-- one item more, to which no earlier one stands in the relation
+pub pairs_more : {X : Type 0} (R : X → X → Type 0) (xs : List X) (n : ℕ) (x : X) → n < length xs → x ≡ get_or xs n x → AllPairs (λ a b. R a b → ⊥) (take n xs) →
+    (Any (λ y. R y x) (take n xs) → ⊥) → AllPairs (λ a b. R a b → ⊥) (take (n + 1) xs)
+pairs_more {X = X} R xs n x within is none first =
+    let P : List X → Type 0 = λ ys. AllPairs (λ a b. R a b → ⊥) ys in
+    let e : take (n + 1) xs ≡ take n xs ++ x ∷ [] = take_more xs n x within ∙ ap (λ y. take n xs ++ y ∷ []) (sym is) in
+    subst P (sym e) (all_pairs_push (λ a b. R a b → ⊥) (take n xs) x none
+    (λ k d low r. first (k, get_or (take n xs) k d, low, read_same (take n xs) k (get_or (take n xs) k d) d low, r)))

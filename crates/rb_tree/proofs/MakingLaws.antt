@@ -1,18 +1,20 @@
 -- What is made of the links and the joints of a robot, body by body.
 use Rattle.std.proofs.Common.{◌≡◌, ◌≢◌, ℕ, zero, suc, ◌+◌, ◌<◌, ◌≤◌, List, [], ◌∷◌, ◌++◌, length, take, get_or, Option, None, Some, ◌⊎◌, inl, inr, add-one, sym, ◌∙◌, ap, subst, refl, arith}
-use Rattle.std.specs.List.{slice_get, All, AllByRecursion, AllZip}
+use Rattle.std.specs.List.{slice_get, AllByRecursion, AllZip}
 use Rattle.std.specs.Option.{option_map_or}
-use Rattle.std.specs.Prelude.{Result, Ok, Err, IfErr, IsErrAnd}
+use Rattle.std.specs.Prelude.{Result, Ok, Err, IfOk, IfErr, IsErrAnd}
+use Rattle.rb_tags.specs.declared.root.RootKind.{RootKind}
 use Rattle.std.proofs.Math.Seq.{take-suc}
-use Rattle.std.proofs.lemmas.Bool.{cases_order}
-use Rattle.std.proofs.lemmas.Option.{get_or_from_slice_get, slice_get_within}
+use Rattle.std.proofs.lemmas.Bool.{cases_order, cases_lt}
+use Rattle.std.proofs.lemmas.Option.{get_or_from_slice_get, slice_get_within, same_Some}
 use Rattle.std.proofs.lemmas.Slice.Zip.{AllZip-long}
-use Rattle.rb_result.proofs.Results.{placed-ok, same_ok}
+use Rattle.rb_result.proofs.Results.{placed-ok}
 use Rattle.rb_frac.specs.Spatial.{BodyInertia}
 use Rattle.rb_num.specs.Interval.{Interval}
 use Rattle.rb_spatial.specs.Vectors.{vector_of}
 use Rattle.rb_trig.specs.Axis.{MakesUnit}
 use Rattle.rb_flat.specs.Joint as Flat
+use Rattle.rb_flat.specs.Choice.{LinkOrdered, JointOrdered}
 use Rattle.rb_joint.specs.declared.any.AnyJoint.{AnyJoint}
 use Rattle.rb_joint.specs.Any as Model
 use Rattle.rb_urdf.specs.declared.robot.UrdfKind.{UrdfKind}
@@ -24,7 +26,7 @@ use Rattle.rb_urdf.proofs.Zips.{beside_left, each-pair, each-right}
 use Rattle.rb_body.specs.declared.raw.LinkRaw.{LinkRaw}
 use Rattle.rb_body.specs.declared.raw.JointRaw.{JointRaw}
 use Rattle.rb_body.specs.Raw as Raw
-use Rattle.rb_body.specs.Raw.{HasAxis, HasModel, link_brackets}
+use Rattle.rb_body.specs.Raw.{HasAxis, link_brackets, joint_brackets}
 use Rattle.rb_body.specs.Inertia.{inertia_by}
 use Rattle.rb_body.specs.Joint.{joint_by, HasNumbers}
 use Rattle.rb_body.proofs.Models.{joint_answer}
@@ -33,14 +35,15 @@ use Rattle.rb_tree.specs.declared.order.Stem.{Stem}
 use Rattle.rb_tree.specs.declared.robot.Body.{Body}
 use Rattle.rb_tree.specs.declared.robot.Mimic.{Mimic}
 use Rattle.rb_tree.specs.Faults.{no_memory}
-use Rattle.rb_tree.specs.Sizes.{columns_of, stem_columns, IsBuildable}
-use Rattle.rb_tree.specs.Order.{no_stem, stem_of, IsOrder, IsFewInAll}
+use Rattle.rb_tree.specs.Names.{ShareName}
+use Rattle.rb_tree.specs.Sizes.{columns_of, bearer_of, bearer_columns, stem_columns, HasOwnRootName, HaveOwnNames}
+use Rattle.rb_tree.specs.Order.{no_stem, stem_of, IsOrder, IsAccepted}
 use Rattle.rb_tree.specs.Columns.{full_columns, own_columns, unless_mimic, mimic_or, leader_at, parent_at, body_at}
 use Rattle.rb_tree.specs.Robot.{IsAxisKept, IsBodyKept, HasOwnJointName, AreBodies}
-use Rattle.rb_tree.specs.Parts.{fault_at, raw_of, root_joint, inertia_made, joint_made}
-use Rattle.rb_tree.specs.Build.{Bears, IsBody, IsBuilt, HasConstants, IsRefused, HasConstantFault, IsJointThere, IsStemThere, IsBodyOf}
+use Rattle.rb_tree.specs.Parts.{fault_at, raw_of, inertia_made, joint_made, root_kind, root_joint, IsMadeOf, IsRefusedAt}
+use Rattle.rb_tree.specs.Build.{IsPair, IsBody, IsBuilt, HasConstants, IsRefused, HasConstantFault, IsJointThere, IsStemThere, IsBodyOf}
 use Rattle.rb_tree.proofs.ListLaws.{AllZip-more, AllZip-firsts, AllZip-sum, apart, same_item}
-use Rattle.rb_tree.proofs.Root.{root_still}
+use Rattle.rb_tree.proofs.NameLaws.{share_same, share_turned, stems_share}
 
 -- ---- the constants of a body
 kind_columns : (kind : UrdfKind) → Flat.column_count (Raw.kind_of kind) ≡ columns_of kind
@@ -52,17 +55,21 @@ kind_columns Planar = refl
 kind_columns Floating = refl
 
 -- the numbers that a joint is made of give the same joint
-joint_again : (kind : UrdfKind) (xyz rpy axis : List Interval) (r : AnyJoint × JointRaw) → HasModel kind → joint_by kind xyz rpy axis ≡ Ok r → HasNumbers kind xyz rpy axis r.1 →
+joint_again : (kind : UrdfKind) (xyz rpy axis : List Interval) (r : AnyJoint × JointRaw) → joint_by kind xyz rpy axis ≡ Ok r → HasNumbers kind xyz rpy axis r.1 →
     joint_by r.1.kind r.1.xyz r.1.rpy r.1.axis ≡ Ok r
 unfolding joint_by
-joint_again Fixed xyz rpy axis r h e n =
+joint_again Fixed xyz rpy axis r e n =
     let same : joint_by r.1.kind r.1.xyz r.1.rpy r.1.axis ≡ joint_by Fixed xyz rpy axis = λ i. joint_by (n.kind i) (n.origin i) (n.angles i) r.1.axis in
     same ∙ e
-joint_again Revolute xyz rpy axis r h e n = (λ i. joint_by (n.kind i) (n.origin i) (n.angles i) (n.axis tt i)) ∙ e
-joint_again Prismatic xyz rpy axis r h e n = (λ i. joint_by (n.kind i) (n.origin i) (n.angles i) (n.axis tt i)) ∙ e
-joint_again Continuous xyz rpy axis r h e n = absurd h
-joint_again Planar xyz rpy axis r h e n = absurd h
-joint_again Floating xyz rpy axis r h e n = absurd h
+joint_again Revolute xyz rpy axis r e n = (λ i. joint_by (n.kind i) (n.origin i) (n.angles i) (n.axis tt i)) ∙ e
+joint_again Prismatic xyz rpy axis r e n = (λ i. joint_by (n.kind i) (n.origin i) (n.angles i) (n.axis tt i)) ∙ e
+joint_again Continuous xyz rpy axis r e n = (λ i. joint_by (n.kind i) (n.origin i) (n.angles i) (n.axis tt i)) ∙ e
+joint_again Planar xyz rpy axis r e n =
+    let same : joint_by r.1.kind r.1.xyz r.1.rpy r.1.axis ≡ joint_by Planar xyz rpy axis = λ i. joint_by (n.kind i) (n.origin i) (n.angles i) r.1.axis in
+    same ∙ e
+joint_again Floating xyz rpy axis r e n =
+    let same : joint_by r.1.kind r.1.xyz r.1.rpy r.1.axis ≡ joint_by Floating xyz rpy axis = λ i. joint_by (n.kind i) (n.origin i) (n.angles i) r.1.axis in
+    same ∙ e
 
 axis_kept : (kind : UrdfKind) (xyz rpy axis : List Interval) (raw : JointRaw) → HasNumbers kind xyz rpy axis raw → IsAxisKept raw
 axis_kept kind xyz rpy axis raw n = record {
@@ -81,20 +88,23 @@ inertia_is : (link : UrdfLink) (raw : LinkRaw) (inertia : BodyInertia Interval) 
 unfolding inertia_made
 inertia_is link raw inertia e made = ap (λ (l : LinkRaw). inertia_by (link_brackets l)) e ∙ placed-ok fault_at link.place _ inertia made
 
-pub constants_kept : (link : UrdfLink) (joint : UrdfJoint) (body : Body) → HasModel joint.kind → body.link_raw ≡ raw_of link → inertia_made link ≡ Ok body.inertia →
-    joint_made joint ≡ Ok (body.joint, body.joint_raw) → HasNumbers joint.kind joint.xyz joint.rpy joint.axis body.joint_raw → IsBodyKept body
-constants_kept link joint body h raw inertia model n = record {
+pub constants_kept : (link : UrdfLink) (joint : UrdfJoint) (body : Body) → body.link_raw ≡ raw_of link → inertia_made link ≡ Ok body.inertia →
+    joint_made joint ≡ Ok (body.joint, body.joint_raw) → HasNumbers joint.kind joint.xyz joint.rpy joint.axis body.joint_raw → LinkOrdered (link_brackets body.link_raw) →
+    JointOrdered (joint_brackets body.joint_raw) → IsBodyKept body
+constants_kept link joint body raw inertia model n l j = record {
   inertia = inertia_is link body.link_raw body.inertia raw inertia;
-  joint = joint_again joint.kind joint.xyz joint.rpy joint.axis (body.joint, body.joint_raw) h (model_is joint (body.joint, body.joint_raw) model) n;
+  joint = joint_again joint.kind joint.xyz joint.rpy joint.axis (body.joint, body.joint_raw) (model_is joint (body.joint, body.joint_raw) model) n;
   axis = axis_kept joint.kind joint.xyz joint.rpy joint.axis body.joint_raw n;
+  link_ordered = l;
+  joint_ordered = j;
 }
 
--- a model has the columns of the joint's kind
-pub model_columns : (joint : UrdfJoint) (model : AnyJoint) (raw : JointRaw) → joint_made joint ≡ Ok (model, raw) → HasNumbers joint.kind joint.xyz joint.rpy joint.axis raw →
-    Flat.column_count (Model.kind_of model) ≡ columns_of joint.kind
-model_columns joint model raw made n =
+-- a model is of the joint's kind
+pub model_kind : (joint : UrdfJoint) (model : AnyJoint) (raw : JointRaw) → joint_made joint ≡ Ok (model, raw) → HasNumbers joint.kind joint.xyz joint.rpy joint.axis raw →
+    Model.kind_of model ≡ Raw.kind_of joint.kind
+model_kind joint model raw made n =
     let encloses = joint_answer joint.kind joint.xyz joint.rpy joint.axis (model, raw) (model_is joint (model, raw) made) in
-    ap Flat.column_count encloses.kind ∙ (ap (λ (k : UrdfKind). Flat.column_count (Raw.kind_of k)) n.kind ∙ kind_columns joint.kind)
+    encloses.kind ∙ ap Raw.kind_of n.kind
 
 -- ---- places in the order
 pub stem_found : (stems : List Stem) (k : ℕ) (stem : Stem) → slice_get stems k ≡ Some stem → stem_of stems (suc k) ≡ stem
@@ -133,8 +143,9 @@ stem_low robot stems (suc k) stem o h =
     omega (arith, ap (λ (s : Stem). s.parent) (stem_found stems (suc k) stem h), low.1)
 
 -- ---- robots
-pub have_constants : (robot : Robot) (stems : List Stem) (bodies : List Body) → AllZip (IsBodyOf robot) stems bodies → AllByRecursion (HasConstants robot) stems
-have_constants robot stems bodies e = AllZip-firsts (IsBodyOf robot) (HasConstants robot) (λ stem body b. (body, b.is)) stems bodies e
+pub have_constants : (robot : Robot) (root : UrdfJoint) (stems : List Stem) (bodies : List Body) → AllZip (IsBodyOf robot root) stems bodies →
+    AllByRecursion (HasConstants robot root) stems
+have_constants robot root stems bodies e = AllZip-firsts (IsBodyOf robot root) (HasConstants robot root) (λ stem body b. (body, b.is)) stems bodies e
 
 leader_found : (o : Option Body) (i : ℕ) → ((b : Body) → o ≡ Some b → b.mimic ≡ None) → option_map_or (λ (b : Body). mimic_or b.mimic i) o i ≡ i
 leader_found None i h = refl
@@ -144,29 +155,40 @@ low_parent : (o : Option Body) (i : ℕ) → 1 ≤ i → ((b : Body) → o ≡ S
 low_parent None i from h = from
 low_parent (Some b) i from h = h b refl
 
-full_is_own : (robot : Robot) (stem : Stem) (body : Body) → IsBody robot stem body → full_columns body ≡ own_columns body
-full_is_own robot stem body b = sym (ap (λ (m : Option Mimic). unless_mimic m (Flat.column_count (Model.kind_of body.joint))) b.made.mimic)
+full_is : (robot : Robot) (root : UrdfJoint) (stem : Stem) (body : Body) → IsBodyOf robot root stem body → full_columns body ≡ stem_columns root robot.joints stem
+full_is robot root stem body b = ap Flat.column_count b.kind ∙ (kind_columns b.is.joint.kind ∙ sym (ap bearer_columns b.is.pair.joint_is))
+
+own_is : (robot : Robot) (root : UrdfJoint) (stem : Stem) (body : Body) → IsBodyOf robot root stem body → own_columns body ≡ stem_columns root robot.joints stem
+own_is robot root stem body b = ap (λ (m : Option Mimic). unless_mimic m (full_columns body)) b.is.made.mimic ∙ full_is robot root stem body b
+
+moving : (kind : UrdfKind) → Raw.kind_of kind ≢ Flat.Fixed → 0 < columns_of kind
+moving Fixed h = absurd (h refl)
+moving Revolute h = omega arith
+moving Prismatic h = omega arith
+moving Continuous h = omega arith
+moving Planar h = omega arith
+moving Floating h = omega arith
 
 no_mimic : {X : Type 0} (m : Option Mimic) (mimic : Mimic) → m ≡ None → m ≡ Some mimic → X
 no_mimic m mimic p q = absurd (let e = sym p ∙ q in cc)
 
-module _ (robot : Robot) (stems : List Stem) (bodies : List Body) (o : IsOrder robot stems) (e : AllZip (IsBodyOf robot) stems bodies) where
+module _ (robot : Robot) (root : UrdfJoint) (stems : List Stem) (bodies : List Body) (o : IsOrder robot stems) (e : AllZip (IsBodyOf robot root) stems bodies) where
   leader_is : (i : ℕ) → leader_at bodies i ≡ i
   leader_is zero = refl
-  leader_is (suc k) = leader_found (slice_get bodies k) (suc k) (λ b h. (beside_left (IsBodyOf robot) stems bodies e k b h).2.is.made.mimic)
+  leader_is (suc k) = leader_found (slice_get bodies k) (suc k) (λ b h. (beside_left (IsBodyOf robot root) stems bodies e k b h).2.is.made.mimic)
 
   parent_is_low : (i : ℕ) → 1 ≤ i → parent_at bodies i < i
   parent_is_low zero from = absurd (omega arith)
   parent_is_low (suc k) from =
       low_parent (slice_get bodies k) (suc k) from (λ b h.
-      let p = beside_left (IsBodyOf robot) stems bodies e k b h in
+      let p = beside_left (IsBodyOf robot root) stems bodies e k b h in
       omega (arith, p.2.is.parent, stem_low robot stems k p.0 o p.1))
 
   -- ---- names
-  stem_beside : (i : ℕ) (b : Body) → body_at bodies i ≡ Some b → (stem : Stem) × (0 < i) × (i ≤ length stems) × (stem_of stems i ≡ stem) × IsBodyOf robot stem b
+  stem_beside : (i : ℕ) (b : Body) → body_at bodies i ≡ Some b → (stem : Stem) × (0 < i) × (i ≤ length stems) × (stem_of stems i ≡ stem) × IsBodyOf robot root stem b
   stem_beside zero b h = absurd cc
   stem_beside (suc k) b h =
-      let p = beside_left (IsBodyOf robot) stems bodies e k b h in
+      let p = beside_left (IsBodyOf robot root) stems bodies e k b h in
       let within = slice_get_within stems k p.0 p.1 in
       (p.0, omega arith, omega (arith, within), stem_found stems k p.0 p.1, p.2)
 
@@ -188,22 +210,27 @@ module _ (robot : Robot) (stems : List Stem) (bodies : List Body) (o : IsOrder r
       apart (λ (l : UrdfLink). l.name) robot.links s.0.link t.0.link s.4.is.link t.4.is.link file.link_names.differ links_differ s.4.is.pair.link_is t.4.is.pair.link_is
       (sym s.4.is.made.link_name ∙ (same ∙ t.4.is.made.link_name))
 
-  -- a root's joint is fixed
-  root_fixed : (b : Body) → body_at bodies 1 ≡ Some b → Model.kind_of b.joint ≡ Flat.Fixed
-  root_fixed b h =
+  -- the joint of the root bears body 1
+  root_bears : (b : Body) (h : body_at bodies 1 ≡ Some b) → (stem_beside 1 b h).4.is.joint ≡ root
+  root_bears b h =
       let s = stem_beside 1 b h in
       let unborne : s.0.joint ≡ None = ap (λ (x : Stem). x.joint) (sym s.3) ∙ o.root.no_joint in
-      let is_root : s.4.is.joint ≡ root_joint robot.place = subst (λ (n : Option ℕ). Bears robot n s.4.is.joint) unborne s.4.is.pair.joint_is in
-      let same = same_ok (b.joint, b.joint_raw) _ (sym s.4.is.made.model ∙ (ap joint_made is_root ∙ root_still robot.place)) in
-      ap (λ (r : AnyJoint × JointRaw). Model.kind_of r.0) same
+      sym (same_Some root s.4.is.joint (sym (ap (bearer_of root robot.joints) unborne) ∙ s.4.is.pair.joint_is))
 
-  later_number : (i : ℕ) (b : Body) → body_at bodies i ≡ Some b → HasOwnJointName i b → 1 < i
-  later_number i b h (inl later) = later
-  later_number i b h (inr moves) =
-      let s = stem_beside i b h in
+  -- a later body, or the root where its joint has columns
+  later_or_root : (i : ℕ) (b : Body) → body_at bodies i ≡ Some b → HasOwnJointName i b → (1 < i) ⊎ ((0 < columns_of root.kind) × (b.joint_name ≡ root.name))
+  later_or_root i b h (inl later) = inl later
+  later_or_root i b h (inr moves) =
       elim (cases_order i 1) [
-        | inl e ↦ absurd (moves (root_fixed b (ap (body_at bodies) (sym e) ∙ h)))
-        | inr apart ↦ elim apart [ inl less ↦ absurd (omega (arith, s.1)) | inr more ↦ more ]
+        | inl first ↦
+            let at_root : body_at bodies 1 ≡ Some b = ap (body_at bodies) (sym first) ∙ h in
+            let s = stem_beside 1 b at_root in
+            let is = root_bears b at_root in
+            inr (
+              moving root.kind (λ fixed. moves (s.4.kind ∙ (ap (λ (j : UrdfJoint). Raw.kind_of j.kind) is ∙ fixed))),
+              s.4.is.made.joint_name ∙ ap (λ (j : UrdfJoint). j.name) is,
+            )
+        | inr apart ↦ elim apart [ inl less ↦ absurd (let s = stem_beside i b h in omega (arith, s.1)) | inr more ↦ inl more ]
       ]
 
   -- the joint that bears a later body
@@ -212,62 +239,134 @@ module _ (robot : Robot) (stems : List Stem) (bodies : List Body) (o : IsOrder r
       let s = stem_beside i b h in
       let borne = o.borne i from s.2 in
       let named : s.0.joint ≡ Some borne.number = ap (λ (x : Stem). x.joint) (sym s.3) ∙ borne.named in
-      let is : slice_get robot.joints borne.number ≡ Some s.4.is.joint = subst (λ (n : Option ℕ). Bears robot n s.4.is.joint) named s.4.is.pair.joint_is in
+      let is : slice_get robot.joints borne.number ≡ Some s.4.is.joint = sym (ap (bearer_of root robot.joints) named) ∙ s.4.is.pair.joint_is in
       let same : borne.joint ≡ s.4.is.joint = same_item robot.joints borne.number borne.number borne.joint s.4.is.joint refl borne.is is in
       (borne.number, borne.joint, borne.is, borne.child, s.4.is.made.joint_name ∙ ap (λ (j : UrdfJoint). j.name) (sym same))
 
-  joint_names : IsRobot robot.links robot.joints → (i j : ℕ) (a b : Body) → i ≢ j → body_at bodies i ≡ Some a → body_at bodies j ≡ Some b →
-      HasOwnJointName i a → HasOwnJointName j b → a.joint_name ≢ b.joint_name
-  joint_names file i j a b other p q own_i own_j same =
+  later_names : IsRobot robot.links robot.joints → (i j : ℕ) (a b : Body) → i ≢ j → 1 < i → 1 < j → body_at bodies i ≡ Some a → body_at bodies j ≡ Some b → a.joint_name ≢ b.joint_name
+  later_names file i j a b other later_i later_j p q same =
       let s = stem_beside i a p in
       let t = stem_beside j b q in
-      let x = bearer_by i a (later_number i a p own_i) p in
-      let y = bearer_by j b (later_number j b q own_j) q in
+      let x = bearer_by i a later_i p in
+      let y = bearer_by j b later_j q in
       let numbers_differ : x.0 ≢ y.0 = λ h.
       let joints_same = same_item robot.joints x.0 y.0 x.1 y.1 h x.2 y.2 in
       links_apart i j other s.1 s.2 t.1 t.2 (sym x.3 ∙ (ap (λ (z : UrdfJoint). z.child) joints_same ∙ y.3)) in
       apart (λ (z : UrdfJoint). z.name) robot.joints x.0 y.0 x.1 y.1 file.joint_names.differ numbers_differ x.2 y.2 (sym x.4 ∙ (same ∙ y.4))
 
-  pub are_bodies : IsRobot robot.links robot.joints → IsFewInAll robot stems → AreBodies bodies
-  are_bodies file few =
-      let n = AllZip-long (IsBodyOf robot) stems bodies e in
-      let columns = AllZip-sum (IsBodyOf robot) (stem_columns robot.joints) own_columns (λ stem body b. b.columns) stems bodies e in
-      let full = AllZip-sum (IsBodyOf robot) (stem_columns robot.joints) full_columns (λ stem body b. full_is_own robot stem body b.is ∙ b.columns) stems bodies e in
+  -- a later body has not the name of a root's joint that has columns
+  root_name_apart : HasOwnRootName root robot.joints → (i : ℕ) (b : Body) → 1 < i → body_at bodies i ≡ Some b → 0 < columns_of root.kind → b.joint_name ≢ root.name
+  root_name_apart own i b later h moves same =
+      let x = bearer_by i b later h in
+      own moves x.0 x.1 (slice_get_within robot.joints x.0 x.1 x.2) (ap (λ (j : UrdfJoint). j.name) (get_or_from_slice_get robot.joints x.0 x.1 x.1 x.2) ∙ (sym x.4 ∙ same))
+
+  both_root : (i j : ℕ) (a b : Body) → i ≢ j → body_at bodies i ≡ Some a → body_at bodies j ≡ Some b → (1 < i → ⊥) → (1 < j → ⊥) → ⊥
+  both_root i j a b other p q low_i low_j =
+      let s = stem_beside i a p in
+      let t = stem_beside j b q in
+      other (omega (arith, s.1, t.1))
+
+  joint_names : IsRobot robot.links robot.joints → HasOwnRootName root robot.joints → (i j : ℕ) (a b : Body) → i ≢ j → body_at bodies i ≡ Some a → body_at bodies j ≡ Some b →
+      HasOwnJointName i a → HasOwnJointName j b → a.joint_name ≢ b.joint_name
+  joint_names file own i j a b other p q own_i own_j same =
+      elim (cases_lt 1 i) [
+        | inl later_i ↦ elim (cases_lt 1 j) [
+          | inl later_j ↦ later_names file i j a b other later_i later_j p q same
+          | inr low_j ↦ elim (later_or_root j b q own_j) [
+            | inl later_j ↦ later_names file i j a b other later_i later_j p q same
+            | inr r ↦ root_name_apart own i a later_i p r.0 (same ∙ r.1)
+          ]
+        ]
+        | inr low_i ↦ elim (cases_lt 1 j) [
+          | inl later_j ↦ elim (later_or_root i a p own_i) [
+            | inl later_i ↦ later_names file i j a b other later_i later_j p q same
+            | inr r ↦ root_name_apart own j b later_j q r.0 (sym same ∙ r.1)
+          ]
+          | inr low_j ↦ both_root i j a b other p q (λ h. omega arith) (λ h. omega arith)
+        ]
+      ]
+
+  -- ---- names of entries and columns
+  shared_by : (i j : ℕ) (a b : Body) → i < j → body_at bodies i ≡ Some a → body_at bodies j ≡ Some b → HaveOwnNames root robot.joints stems →
+      ShareName (Model.kind_of a.joint) a.joint_name (Model.kind_of b.joint) b.joint_name → ⊥
+  shared_by zero j a b less p q own h = absurd cc
+  shared_by (suc k) zero a b less p q own h = absurd cc
+  shared_by (suc k) (suc l) a b less p q own h =
+      let s = stem_beside (suc k) a p in
+      let t = stem_beside (suc l) b q in
+      let x : bearer_of root robot.joints (stem_of stems (suc k)).joint ≡ Some s.4.is.joint = ap (λ (r : Stem). bearer_of root robot.joints r.joint) s.3 ∙ s.4.is.pair.joint_is in
+      let y : bearer_of root robot.joints (stem_of stems (suc l)).joint ≡ Some t.4.is.joint = ap (λ (r : Stem). bearer_of root robot.joints r.joint) t.3 ∙ t.4.is.pair.joint_is in
+      own k l no_stem (omega arith) (omega (arith, t.2)) (stems_share root robot.joints (stem_of stems (suc k)) (stem_of stems (suc l)) s.4.is.joint t.4.is.joint x y
+      (share_same _ _ _ _ _ _ _ _ s.4.kind s.4.is.made.joint_name t.4.kind t.4.is.made.joint_name h))
+
+  own_names : HaveOwnNames root robot.joints stems → (i j : ℕ) (a b : Body) → i ≢ j → body_at bodies i ≡ Some a → body_at bodies j ≡ Some b →
+      ShareName (Model.kind_of a.joint) a.joint_name (Model.kind_of b.joint) b.joint_name → ⊥
+  own_names own i j a b other p q h =
+      elim (cases_order i j) [
+        | inl same ↦ other same
+        | inr apart ↦ elim apart [
+          | inl less ↦ shared_by i j a b less p q own h
+          | inr more ↦ shared_by j i b a more q p own (share_turned _ _ _ _ h)
+        ]
+      ]
+
+  pub are_bodies : IsRobot robot.links robot.joints → IsAccepted robot root stems → AreBodies bodies
+  are_bodies file accepted =
+      let n = AllZip-long (IsBodyOf robot root) stems bodies e in
+      let columns = AllZip-sum (IsBodyOf robot root) (stem_columns root robot.joints) own_columns (own_is robot root) stems bodies e in
+      let full = AllZip-sum (IsBodyOf robot root) (stem_columns root robot.joints) full_columns (full_is robot root) stems bodies e in
       record {
         some = omega (arith, n, o.some);
-        few = omega (arith, n, o.count, few.links);
-        few_columns = omega (arith, columns, few.columns);
-        few_full = omega (arith, full, few.columns);
+        few = omega (arith, n, o.count, accepted.links);
+        few_columns = omega (arith, columns, accepted.columns);
+        few_full = omega (arith, full, accepted.columns);
         columns_within = omega (arith, full, columns);
         parents = parent_is_low;
         leads_from = λ i h. omega (arith, leader_is i);
         leads_to = λ i h. omega (arith, leader_is i);
         follows = λ i body mimic h m. no_mimic body.mimic mimic (stem_beside i body h).4.is.made.mimic m;
         links = λ i a p j b other q same. link_names file i j a b (λ e. other (sym e)) p q (sym same);
-        joints = λ i a p own_i j b other q own_j same. joint_names file i j a b (λ e. other (sym e)) p q own_i own_j (sym same);
-        kept = each-right (IsBodyOf robot) IsBodyKept (λ stem body b. b.kept) stems bodies e;
+        joints = λ i a p own_i j b other q own_j same. joint_names file accepted.root_name i j a b (λ e. other (sym e)) p q own_i own_j (sym same);
+        names = λ i j a b other p q leads_a leads_b. own_names accepted.names i j a b other p q;
+        kept = each-right (IsBodyOf robot root) IsBodyKept (λ stem body b. b.kept) stems bodies e;
       }
 
-pub built : (robot : Robot) (stems : List Stem) (bodies : List Body) (name : List ℕ) → IsOrder robot stems → IsFewInAll robot stems → All IsBuildable robot.joints → AllZip (IsBodyOf robot) stems bodies → name ≡ robot.name → IsBuilt robot (record { name = name; bodies = bodies })
-built robot stems bodies name o few joints e n = record {
+pub built : (robot : Robot) (root : UrdfJoint) (stems : List Stem) (bodies : List Body) (name : List ℕ) → IsOrder robot stems → IsAccepted robot root stems →
+    AllZip (IsBodyOf robot root) stems bodies → name ≡ robot.name → IsBuilt robot root (record { name = name; bodies = bodies })
+built robot root stems bodies name o accepted e n = record {
   name = n;
   order = stems;
   ordered = o;
-  few = few;
-  joints = joints;
-  bodies = each-pair (IsBodyOf robot) (IsBody robot) (λ stem body b. b.is) stems bodies e;
+  accepted = accepted;
+  bodies = each-pair (IsBodyOf robot root) (IsBody robot root) (λ stem body b. b.is) stems bodies e;
 }
 
--- where the bodies before a place are made and that at the place is refused
-pub refused_there : (robot : Robot) (order : List Stem) (k : ℕ) (stem : Stem) (bodies : List Body) (fault : TreeFault) → IsOrder robot order → IsFewInAll robot order → All IsBuildable robot.joints → slice_get order k ≡ Some stem →
-    AllZip (IsBodyOf robot) (take k order) bodies → (fault ≡ no_memory) ⊎ IsRefused robot stem fault → (fault ≡ no_memory) ⊎ HasConstantFault robot fault
-refused_there robot order k stem bodies fault o few joints h e (inl m) = inl m
-refused_there robot order k stem bodies fault o few joints h e (inr r) =
-    inr (record { order = order; ordered = o; few = few; joints = joints; number = k; stem = stem; is = h; before = have_constants robot (take k order) bodies e; refused = r })
+-- a body made of its link and its joint
+module _ (robot : Robot) (root : UrdfJoint) (stem : Stem) (link : UrdfLink) (joint : UrdfJoint) (pair : IsPair robot root stem link joint) where
+  pub body_there : (r : Result Body TreeFault) → IfOk r (λ body. body.parent ≡ stem.parent) → IfOk r (IsMadeOf link joint) → IfOk r IsBodyKept →
+      IfOk r (λ body. Model.kind_of body.joint ≡ Raw.kind_of joint.kind) → IfOk r (IsBodyOf robot root stem)
+  body_there (Ok body) p m k n = record { is = record { link = link; joint = joint; pair = pair; parent = p; made = m }; kept = k; kind = n }
+  body_there (Err fault) p m k n = tt
 
-pub one_more : (robot : Robot) (order : List Stem) (k : ℕ) (bodies : List Body) (body : Body) (d : Stem) → k < length order → AllZip (IsBodyOf robot) (take k order) bodies →
-    IsBodyOf robot (get_or order k d) body → AllZip (IsBodyOf robot) (take (k + 1) order) (bodies ++ body ∷ [])
-one_more robot order k bodies body d h e b = rw (add-one, take-suc order k d h) (AllZip-more (IsBodyOf robot) (take k order) bodies (get_or order k d) body e b)
+  pub refused_by : (r : Result Body TreeFault) → IfErr r (λ fault. (fault ≡ no_memory) ⊎ IsRefusedAt link joint fault) → IfErr r (λ fault. (fault ≡ no_memory) ⊎ IsRefused robot root stem fault)
+  refused_by (Ok body) h = tt
+  refused_by (Err fault) h = elim h [ inl m ↦ inl m | inr r ↦ inr (record { link = link; joint = joint; pair = pair; refused = r }) ]
+
+pub root_joint_is : (joint : UrdfJoint) (robot : Robot) (root : Option RootKind) (kind : UrdfKind) (name : List ℕ) (at : ℕ) → joint ≡ root_joint kind name at → kind ≡ root_kind root →
+    at ≡ robot.place → joint ≡ root_joint (root_kind root) name robot.place
+root_joint_is joint robot root kind name at e k p = e ∙ λ i. root_joint (k i) name (p i)
+
+-- where the bodies before a place are made and that at the place is refused
+pub refused_there : (robot : Robot) (root : UrdfJoint) (order : List Stem) (k : ℕ) (stem : Stem) (bodies : List Body) (fault : TreeFault) → IsOrder robot order → IsAccepted robot root order →
+    slice_get order k ≡ Some stem → AllZip (IsBodyOf robot root) (take k order) bodies → (fault ≡ no_memory) ⊎ IsRefused robot root stem fault →
+    (fault ≡ no_memory) ⊎ HasConstantFault robot root fault
+refused_there robot root order k stem bodies fault o accepted h e (inl m) = inl m
+refused_there robot root order k stem bodies fault o accepted h e (inr r) =
+    inr (record { order = order; ordered = o; accepted = accepted; number = k; stem = stem; is = h; before = have_constants robot root (take k order) bodies e; refused = r })
+
+pub one_more : (robot : Robot) (root : UrdfJoint) (order : List Stem) (k : ℕ) (bodies : List Body) (body : Body) (d : Stem) → k < length order →
+    AllZip (IsBodyOf robot root) (take k order) bodies → IsBodyOf robot root (get_or order k d) body → AllZip (IsBodyOf robot root) (take (k + 1) order) (bodies ++ body ∷ [])
+one_more robot root order k bodies body d h e b = rw (add-one, take-suc order k d h) (AllZip-more (IsBodyOf robot root) (take k order) bodies (get_or order k d) body e b)
 
 -- a refusal that is handed on
 pub handed_on : {A E : Type 0} (P : E → Type 0) (r : Result A E) (x : E) → IsErrAnd r (λ e. e ≡ x) → P x → IfErr r P

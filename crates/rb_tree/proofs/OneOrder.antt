@@ -12,18 +12,19 @@ use Rattle.rb_urdf.specs.declared.robot.UrdfJoint.{UrdfJoint}
 use Rattle.rb_urdf.specs.Robot.{Robot, IsRobot, IsJointKept}
 use Rattle.rb_tree.specs.declared.sizes.TheConstants.{MAX_LINKS, MAX_COLUMNS}
 use Rattle.rb_tree.specs.declared.order.Stem.{Stem}
-use Rattle.rb_tree.specs.Order.{stem_of, no_stem, Reaches, IsOrder, HasCycle, HasTooManyColumns, IsFewInAll, IsFirstFault, HasOrderFault}
-use Rattle.rb_tree.specs.Sizes.{IsBuildable, stem_columns, HasUnbuilt}
+use Rattle.rb_tree.specs.Order.{stem_of, no_stem, Reaches, IsOrder, HasCycle, HasNameTwice, HasTooManyColumns, IsAccepted, IsFirstFault, HasOrderFault}
+use Rattle.rb_tree.specs.Sizes.{IsBuildable, stem_columns, HasUnbuilt, HasOwnRootName, IsNamedAsRoot, StemsShare, HaveOwnNames, SharesName}
 use Rattle.rb_tree.specs.Roots.{IsChild, HaveOneParent, HasTwoParents, HasNoRoot, HasTwoRoots, HasRootBelow}
 use Rattle.rb_tree.specs.Grow.{stem_at, parent_link, child_link, link_of, parent_of, joint_of, HasLink, IsPart, IsPlaced, IsGrown}
 use Rattle.rb_tree.specs.declared.faults.TreeFault.{TreeFault}
 use Rattle.rb_tree.specs.declared.faults.TreeKind.{TreeKind}
-use Rattle.rb_tree.specs.declared.faults.TreeKind.TheVariants.{Unbuilt, TooManyLinks, TwoParents, NoRoot, TwoRoots, Cycle, TooManyColumns, AngleRange, ZeroAxis, Size, Memory}
+use Rattle.rb_tree.specs.declared.faults.TreeKind.TheVariants.{Unbuilt, TooManyLinks, TwoParents, NoRoot, TwoRoots, Cycle, RootName, NameTwice, TooManyColumns, AngleRange, ZeroAxis, Size, Memory}
 use Rattle.rb_tree.specs.Faults.{IsLinkPlace}
 use Rattle.rb_tree.proofs.Stems.{read_same, joint_at, down_read, down_below}
 use Rattle.rb_tree.proofs.Ways.{contains_at}
 use Rattle.rb_tree.proofs.Ordered.{placed_reached}
 use Rattle.rb_tree.proofs.FromOrder.{all_placed, grown_order}
+use Rattle.rb_tree.proofs.ListLaws.{pair_in}
 use Rattle.rb_tree.proofs.Unique.{Agree, agree}
 
 pub children_of : (robot : Robot) → IsRobot robot.links robot.joints → All (λ joint. joint.child < length robot.links) robot.joints
@@ -110,21 +111,6 @@ one_order robot a b kept oa ob =
     ext_get_or no_stem a b (count_a ∙ sym count_b) (λ k ka.
     stems_agree robot root_a (stem_of b 1).link a b ga gb same k ka (omega arith) (agrees n (omega arith) k (omega arith)))
 
--- a joint whose child an earlier joint has stands not among joints of which no two have one child
-pub twice_below : (joints : List UrdfJoint) (number end : ℕ) (joint : UrdfJoint) → slice_get joints number ≡ Some joint → IsChild (take number joints) joint.child →
-    number < end → HaveOneParent (take end joints) → ⊥
-twice_below joints number end joint is twice low one =
-    let j = twice.0 in
-    let earlier = twice.1 in
-    let within = slice_get_within joints number joint is in
-    let lt : j < number = omega (arith, twice.2, length-take-le {A = UrdfJoint} number joints (omega arith)) in
-    let high : number < length (take end joints) = omega (arith, length-take {A = UrdfJoint} end joints) in
-    let first : get_or (take end joints) j earlier ≡ earlier =
-    get_or-take end joints j earlier (omega arith) ∙ sym (get_or-take number joints j earlier lt) ∙ twice.3 in
-    let second : get_or (take end joints) number earlier ≡ joint =
-    get_or-take end joints number earlier low ∙ get_or_from_slice_get joints number joint earlier is in
-    one j number earlier lt high (ap (λ x. x.child) first ∙ twice.4 ∙ ap (λ x. x.child) (sym second))
-
 pub no_unbuilt : (robot : Robot) (at : ℕ) → All IsBuildable robot.joints → HasUnbuilt robot.joints at → ⊥
 no_unbuilt robot at built h =
     let within = slice_get_within robot.joints h.number h.joint h.is in
@@ -134,9 +120,15 @@ pub no_too_many_links : (robot : Robot) (at : ℕ) → length robot.links ≤ MA
 no_too_many_links robot at few h = let within = slice_get_within robot.links MAX_LINKS h.link h.is in omega arith
 
 pub no_two_parents : (robot : Robot) (at : ℕ) → HaveOneParent robot.joints → HasTwoParents robot.joints at → ⊥
-no_two_parents robot at one h =
-    twice_below robot.joints h.number (length robot.joints) h.joint h.is h.twice (slice_get_within robot.joints h.number h.joint h.is)
-    (subst HaveOneParent (sym (take_all (length robot.joints) robot.joints (omega arith))) one)
+no_two_parents robot at one h = pair_in (λ (a b : UrdfJoint). a.child ≡ b.child) robot.joints h.number h.joint h.is h.twice one
+
+pub no_root_name : (root : UrdfJoint) (joints : List UrdfJoint) (at : ℕ) → HasOwnRootName root joints → IsNamedAsRoot root joints at → ⊥
+no_root_name root joints at own h =
+    let differs = own h.moves h.number h.joint (slice_get_within joints h.number h.joint h.is) in
+    differs (ap (λ (j : UrdfJoint). j.name) (get_or_from_slice_get joints h.number h.joint h.joint h.is) ∙ h.name)
+
+pub no_shared_name : (root : UrdfJoint) (joints : List UrdfJoint) (stems : List Stem) (at : ℕ) → HaveOwnNames root joints stems → SharesName root joints stems at → ⊥
+no_shared_name root joints stems at own h = pair_in (StemsShare root joints) stems h.number h.stem h.stem_is h.shares own
 
 -- a robot with an order has no fault of the root
 module _ (robot : Robot) (stems : List Stem) (kept : IsRobot robot.links robot.joints) (order : IsOrder robot stems) where
@@ -181,26 +173,36 @@ module _ (robot : Robot) (stems : List Stem) (kept : IsRobot robot.links robot.j
       let e : h.root ≡ (stem_of stems 1).link = is_root h.root h.only.within h.only.no_child in
       h.apart (subst From (sym e) (placed_reached robot.joints (length robot.links) (stem_of stems 1).link stems grown h.number (placed h.number within)))
 
-  no_too_many_columns : (at : ℕ) → sum_by (stem_columns robot.joints) stems ≤ MAX_COLUMNS → HasTooManyColumns robot at → ⊥
-  no_too_many_columns at few h =
-      let e : h.stems ≡ stems = one_order robot h.stems stems kept h.order order in
-      let total : sum_by (stem_columns robot.joints) h.stems ≡ sum_by (stem_columns robot.joints) stems = ap (sum_by (stem_columns robot.joints)) e in
-      let passed = h.pass.passed in
-      omega (arith, total, sum_by-take-le (stem_columns robot.joints) h.stems (h.pass.number + 1))
+  pub same_order : (others : List Stem) → IsOrder robot others → others ≡ stems
+  same_order others other = one_order robot others stems kept other order
 
-  no_fault : (kind : TreeKind) (at : ℕ) → All IsBuildable robot.joints → IsFewInAll robot stems → IsFirstFault robot kind at → ⊥
-  no_fault Unbuilt at built few h = no_unbuilt robot at built h
-  no_fault TooManyLinks at built few h = no_too_many_links robot at few.links h.1
-  no_fault TwoParents at built few h = no_two_parents robot at order.one_parent h.1
-  no_fault NoRoot at built few h = no_no_root h.1
-  no_fault TwoRoots at built few h = no_two_roots at h.1
-  no_fault Cycle at built few h = no_cycle at h.1
-  no_fault TooManyColumns at built few h = no_too_many_columns at few.columns h.1
-  no_fault AngleRange at built few h = h
-  no_fault ZeroAxis at built few h = h
-  no_fault Size at built few h = h
-  no_fault Memory at built few h = h
+  module _ (root : UrdfJoint) where
+    no_name_twice : (at : ℕ) → HaveOwnNames root robot.joints stems → HasNameTwice robot root at → ⊥
+    no_name_twice at own h =
+        let P : List Stem → Type 0 = λ xs. HaveOwnNames root robot.joints xs in
+        no_shared_name root robot.joints h.stems at (subst P (sym (same_order h.stems h.order)) own) h.shares
 
-pub fault_excludes : (robot : Robot) (fault : TreeFault) (stems : List Stem) → IsRobot robot.links robot.joints → HasOrderFault robot fault →
-    IsOrder robot stems → All IsBuildable robot.joints → IsFewInAll robot stems → ⊥
-fault_excludes robot fault stems kept h order built few = no_fault robot stems kept order fault.kind fault.at built few h.1
+    no_too_many_columns : (at : ℕ) → sum_by (stem_columns root robot.joints) stems ≤ MAX_COLUMNS → HasTooManyColumns robot root at → ⊥
+    no_too_many_columns at few h =
+        let total : sum_by (stem_columns root robot.joints) h.stems ≡ sum_by (stem_columns root robot.joints) stems = ap (sum_by (stem_columns root robot.joints)) (same_order h.stems h.order) in
+        let passed = h.pass.passed in
+        omega (arith, total, sum_by-take-le (stem_columns root robot.joints) h.stems (h.pass.number + 1))
+
+    no_fault : (kind : TreeKind) (at : ℕ) → IsAccepted robot root stems → IsFirstFault robot root kind at → ⊥
+    no_fault Unbuilt at a h = no_unbuilt robot at a.built h
+    no_fault TooManyLinks at a h = no_too_many_links robot at a.links h.1
+    no_fault TwoParents at a h = no_two_parents robot at order.one_parent h.1
+    no_fault NoRoot at a h = no_no_root h.1
+    no_fault TwoRoots at a h = no_two_roots at h.1
+    no_fault Cycle at a h = no_cycle at h.1
+    no_fault RootName at a h = no_root_name root robot.joints at a.root_name h.1.named
+    no_fault NameTwice at a h = no_name_twice at a.names h.1
+    no_fault TooManyColumns at a h = no_too_many_columns at a.columns h.1
+    no_fault AngleRange at a h = h
+    no_fault ZeroAxis at a h = h
+    no_fault Size at a h = h
+    no_fault Memory at a h = h
+
+pub fault_excludes : (robot : Robot) (root : UrdfJoint) (fault : TreeFault) (stems : List Stem) → IsRobot robot.links robot.joints → HasOrderFault robot root fault →
+    IsOrder robot stems → IsAccepted robot root stems → ⊥
+fault_excludes robot root fault stems kept h order accepted = no_fault robot stems kept order root fault.kind fault.at accepted h.1

@@ -12,7 +12,9 @@ use Rattle.rb_tree.specs.declared.faults.TreeFault.{TreeFault}
 use Rattle.rb_tree.specs.declared.order.Stem.{Stem}
 use Rattle.rb_tree.specs.declared.robot.Body.{Body}
 use Rattle.rb_tree.specs.Robot.{Tree}
-use Rattle.rb_tree.specs.Build.{Bears, IsBody, IsBuilt, IsRefused, HasConstants, HasConstantFault, HasFault}
+use Rattle.std.proofs.lemmas.Option.{same_Some}
+use Rattle.rb_tree.specs.Sizes.{bearer_of}
+use Rattle.rb_tree.specs.Build.{IsBody, IsBuilt, IsRefused, HasConstants, HasConstantFault, HasFault}
 use Rattle.rb_tree.specs.Parts.{IsMadeOf, IsRefusedAt, joint_made}
 use Rattle.rb_result.proofs.Results.{same_ok, same_err}
 use Rattle.rb_urdf.proofs.Zips.{beside}
@@ -20,9 +22,8 @@ use Rattle.rb_tree.proofs.ListLaws.{All-at, same_item}
 use Rattle.rb_tree.proofs.OneOrder.{one_order, fault_excludes}
 use Rattle.rb_tree.proofs.OneFault.{one_fault}
 
-one_joint : (robot : Robot) (o : Option ℕ) (a b : UrdfJoint) → Bears robot o a → Bears robot o b → a ≡ b
-one_joint robot None a b p q = p ∙ sym q
-one_joint robot (Some number) a b p q = cc
+one_joint : (robot : Robot) (root : UrdfJoint) (o : Option ℕ) (a b : UrdfJoint) → bearer_of root robot.joints o ≡ Some a → bearer_of root robot.joints o ≡ Some b → a ≡ b
+one_joint robot root o a b p q = same_Some a b (sym p ∙ q)
 
 made_once : (link : UrdfLink) (joint : UrdfJoint) (a b : Body) → IsMadeOf link joint a → IsMadeOf link joint b → a.parent ≡ b.parent → a ≡ b
 made_once link joint a b p q e =
@@ -45,10 +46,10 @@ made_once link joint a b p q e =
       mimic = mimics i;
     }
 
-one_body : (robot : Robot) (stem : Stem) (a b : Body) → IsBody robot stem a → IsBody robot stem b → a ≡ b
-one_body robot stem a b p q =
+one_body : (robot : Robot) (root : UrdfJoint) (stem : Stem) (a b : Body) → IsBody robot root stem a → IsBody robot root stem b → a ≡ b
+one_body robot root stem a b p q =
     let l = same_item robot.links stem.link stem.link q.link p.link refl q.pair.link_is p.pair.link_is in
-    let j = one_joint robot stem.joint q.joint p.joint q.pair.joint_is p.pair.joint_is in
+    let j = one_joint robot root stem.joint q.joint p.joint q.pair.joint_is p.pair.joint_is in
     let L : UrdfLink → Type 0 = λ link. IsMadeOf link q.joint b in
     let J : UrdfJoint → Type 0 = λ joint. IsMadeOf p.link joint b in
     made_once p.link p.joint a b p.made (subst J j (subst L l q.made)) (p.parent ∙ sym q.parent)
@@ -64,11 +65,11 @@ one_list R f (x ∷ xs) (a ∷ ys) (b ∷ zs) p q =
     let es = one_list R f xs ys zs p.1 q.1 in
     cc
 
-pub built_once : (robot : Robot) (a b : Tree) → IsRobot robot.links robot.joints → IsBuilt robot a → IsBuilt robot b → a ≡ b
-built_once robot a b kept p q =
+pub built_once : (robot : Robot) (root : UrdfJoint) (a b : Tree) → IsRobot robot.links robot.joints → IsBuilt robot root a → IsBuilt robot root b → a ≡ b
+built_once robot root a b kept p q =
     let o = one_order robot q.order p.order kept q.ordered p.ordered in
-    let E : List Stem → Type 0 = λ stems. AllZip (IsBody robot) stems b.bodies in
-    let bodies = one_list (IsBody robot) (one_body robot) p.order a.bodies b.bodies p.bodies (subst E o q.bodies) in
+    let E : List Stem → Type 0 = λ stems. AllZip (IsBody robot root) stems b.bodies in
+    let bodies = one_list (IsBody robot root) (one_body robot root) p.order a.bodies b.bodies p.bodies (subst E o q.bodies) in
     let name = p.name ∙ sym q.name in
     λ i. record { name = name i; bodies = bodies i }
 
@@ -76,20 +77,20 @@ not_refused : (link : UrdfLink) (joint : UrdfJoint) (body : Body) (fault : TreeF
 not_refused link joint body fault made (inl refused) = let e = made.model in cc
 not_refused link joint body fault made (inr refused) = let e = made.inertia in let h = refused.1 in cc
 
-constants_exclude : (robot : Robot) (fault : TreeFault) (tree : Tree) → IsRobot robot.links robot.joints → HasConstantFault robot fault → IsBuilt robot tree → ⊥
-constants_exclude robot fault tree kept f t =
+constants_exclude : (robot : Robot) (root : UrdfJoint) (fault : TreeFault) (tree : Tree) → IsRobot robot.links robot.joints → HasConstantFault robot root fault → IsBuilt robot root tree → ⊥
+constants_exclude robot root fault tree kept f t =
     let o = one_order robot t.order f.order kept t.ordered f.ordered in
-    let E : List Stem → Type 0 = λ stems. AllZip (IsBody robot) stems tree.bodies in
-    let m = beside (IsBody robot) f.order tree.bodies (subst E o t.bodies) f.number f.stem f.is in
+    let E : List Stem → Type 0 = λ stems. AllZip (IsBody robot root) stems tree.bodies in
+    let m = beside (IsBody robot root) f.order tree.bodies (subst E o t.bodies) f.number f.stem f.is in
     let l = same_item robot.links f.stem.link f.stem.link m.2.link f.refused.link refl m.2.pair.link_is f.refused.pair.link_is in
-    let j = one_joint robot f.stem.joint m.2.joint f.refused.joint m.2.pair.joint_is f.refused.pair.joint_is in
+    let j = one_joint robot root f.stem.joint m.2.joint f.refused.joint m.2.pair.joint_is f.refused.pair.joint_is in
     let L : UrdfLink → Type 0 = λ link. IsMadeOf link m.2.joint m.0 in
     let J : UrdfJoint → Type 0 = λ joint. IsMadeOf f.refused.link joint m.0 in
     not_refused f.refused.link f.refused.joint m.0 fault (subst J j (subst L l m.2.made)) f.refused.refused
 
-pub faults_exclude : (robot : Robot) (fault : TreeFault) (tree : Tree) → IsRobot robot.links robot.joints → HasFault robot fault → IsBuilt robot tree → ⊥
-faults_exclude robot fault tree kept (inl f) t = fault_excludes robot fault t.order kept f t.ordered t.joints t.few
-faults_exclude robot fault tree kept (inr f) t = constants_exclude robot fault tree kept f t
+pub faults_exclude : (robot : Robot) (root : UrdfJoint) (fault : TreeFault) (tree : Tree) → IsRobot robot.links robot.joints → HasFault robot root fault → IsBuilt robot root tree → ⊥
+faults_exclude robot root fault tree kept (inl f) t = fault_excludes robot root fault t.order kept f t.ordered t.accepted
+faults_exclude robot root fault tree kept (inr f) t = constants_exclude robot root fault tree kept f t
 
 -- ---- one fault
 slice_get-take : {A : Type 0} (n : ℕ) (xs : List A) (k : ℕ) → k < n → slice_get (take n xs) k ≡ slice_get xs k
@@ -99,19 +100,19 @@ slice_get-take (suc n) (x ∷ xs) zero h = refl
 slice_get-take (suc n) (x ∷ xs) (suc k) h = slice_get-take n xs k (omega arith)
 
 -- what has constants is not refused
-made_not_refused : (robot : Robot) (stem : Stem) (body : Body) (fault : TreeFault) → IsBody robot stem body → IsRefused robot stem fault → ⊥
-made_not_refused robot stem body fault b r =
+made_not_refused : (robot : Robot) (root : UrdfJoint) (stem : Stem) (body : Body) (fault : TreeFault) → IsBody robot root stem body → IsRefused robot root stem fault → ⊥
+made_not_refused robot root stem body fault b r =
     let l = same_item robot.links stem.link stem.link b.link r.link refl b.pair.link_is r.pair.link_is in
-    let j = one_joint robot stem.joint b.joint r.joint b.pair.joint_is r.pair.joint_is in
+    let j = one_joint robot root stem.joint b.joint r.joint b.pair.joint_is r.pair.joint_is in
     let L : UrdfLink → Type 0 = λ link. IsMadeOf link b.joint body in
     let J : UrdfJoint → Type 0 = λ joint. IsMadeOf r.link joint body in
     not_refused r.link r.joint body fault (subst J j (subst L l b.made)) r.refused
 
 -- a fault at a body before one with a fault
-earlier : (robot : Robot) (order : List Stem) (i j : ℕ) (stem : Stem) (fault : TreeFault) → i < j → slice_get order i ≡ Some stem → IsRefused robot stem fault → AllByRecursion (HasConstants robot) (take j order) → ⊥
-earlier robot order i j stem fault h is r before =
-    let made = All-at (HasConstants robot) (take j order) i stem before (slice_get-take j order i h ∙ is) in
-    made_not_refused robot stem made.0 fault made.1 r
+earlier : (robot : Robot) (root : UrdfJoint) (order : List Stem) (i j : ℕ) (stem : Stem) (fault : TreeFault) → i < j → slice_get order i ≡ Some stem → IsRefused robot root stem fault → AllByRecursion (HasConstants robot root) (take j order) → ⊥
+earlier robot root order i j stem fault h is r before =
+    let made = All-at (HasConstants robot root) (take j order) i stem before (slice_get-take j order i h ∙ is) in
+    made_not_refused robot root stem made.0 fault made.1 r
 
 error_not_ok : {A : Type 0} (r : Result A TreeFault) (x : TreeFault) → r ≡ Err x → IsOk r → ⊥
 error_not_ok (Ok a) x e h = cc
@@ -123,10 +124,10 @@ refused_once link joint x y (inl p) (inr q) = absurd (error_not_ok (joint_made j
 refused_once link joint x y (inr p) (inl q) = absurd (error_not_ok (joint_made joint) y q p.0)
 refused_once link joint x y (inr p) (inr q) = same_err x y (sym p.1 ∙ q.1)
 
-same_stem : (robot : Robot) (stem : Stem) (x y : TreeFault) → IsRefused robot stem x → IsRefused robot stem y → x ≡ y
-same_stem robot stem x y p q =
+same_stem : (robot : Robot) (root : UrdfJoint) (stem : Stem) (x y : TreeFault) → IsRefused robot root stem x → IsRefused robot root stem y → x ≡ y
+same_stem robot root stem x y p q =
     let l = same_item robot.links stem.link stem.link q.link p.link refl q.pair.link_is p.pair.link_is in
-    let j = one_joint robot stem.joint q.joint p.joint q.pair.joint_is p.pair.joint_is in
+    let j = one_joint robot root stem.joint q.joint p.joint q.pair.joint_is p.pair.joint_is in
     let L : UrdfLink → Type 0 = λ link. IsRefusedAt link q.joint y in
     let J : UrdfJoint → Type 0 = λ joint. IsRefusedAt p.link joint y in
     refused_once p.link p.joint x y p.refused (subst J j (subst L l q.refused))
@@ -134,25 +135,25 @@ same_stem robot stem x y p q =
 one_stem : (order : List Stem) (i j : ℕ) (a b : Stem) → i ≡ j → slice_get order i ≡ Some a → slice_get order j ≡ Some b → b ≡ a
 one_stem order i j a b e p q = cc
 
-constant_fault_once : (robot : Robot) (x y : TreeFault) → IsRobot robot.links robot.joints → HasConstantFault robot x → HasConstantFault robot y → x ≡ y
-constant_fault_once robot x y kept p q =
+constant_fault_once : (robot : Robot) (root : UrdfJoint) (x y : TreeFault) → IsRobot robot.links robot.joints → HasConstantFault robot root x → HasConstantFault robot root y → x ≡ y
+constant_fault_once robot root x y kept p q =
     let o = one_order robot q.order p.order kept q.ordered p.ordered in
     let is : slice_get p.order q.number ≡ Some q.stem = rw (← o) q.is in
-    let B : List Stem → Type 0 = λ order. AllByRecursion (HasConstants robot) (take q.number order) in
+    let B : List Stem → Type 0 = λ order. AllByRecursion (HasConstants robot root) (take q.number order) in
     elim (cases_order p.number q.number) [
       | inl same ↦
           let e = one_stem p.order p.number q.number p.stem q.stem same p.is is in
-          let R : Stem → Type 0 = λ stem. IsRefused robot stem y in
-          same_stem robot p.stem x y p.refused (subst R e q.refused)
+          let R : Stem → Type 0 = λ stem. IsRefused robot root stem y in
+          same_stem robot root p.stem x y p.refused (subst R e q.refused)
       | inr apart ↦
           elim apart [
-            | inl less ↦ absurd (earlier robot p.order p.number q.number p.stem x less p.is p.refused (subst B o q.before))
-            | inr more ↦ absurd (earlier robot p.order q.number p.number q.stem y more is q.refused p.before)
+            | inl less ↦ absurd (earlier robot root p.order p.number q.number p.stem x less p.is p.refused (subst B o q.before))
+            | inr more ↦ absurd (earlier robot root p.order q.number p.number q.stem y more is q.refused p.before)
           ]
     ]
 
-pub one_fault_in_all : (robot : Robot) (x y : TreeFault) → IsRobot robot.links robot.joints → HasFault robot x → HasFault robot y → x ≡ y
-one_fault_in_all robot x y kept (inl p) (inl q) = one_fault robot x y kept p q
-one_fault_in_all robot x y kept (inl p) (inr q) = absurd (fault_excludes robot x q.order kept p q.ordered q.joints q.few)
-one_fault_in_all robot x y kept (inr p) (inl q) = absurd (fault_excludes robot y p.order kept q p.ordered p.joints p.few)
-one_fault_in_all robot x y kept (inr p) (inr q) = constant_fault_once robot x y kept p q
+pub one_fault_in_all : (robot : Robot) (root : UrdfJoint) (x y : TreeFault) → IsRobot robot.links robot.joints → HasFault robot root x → HasFault robot root y → x ≡ y
+one_fault_in_all robot root x y kept (inl p) (inl q) = one_fault robot root x y kept p q
+one_fault_in_all robot root x y kept (inl p) (inr q) = absurd (fault_excludes robot root x q.order kept p q.ordered q.accepted)
+one_fault_in_all robot root x y kept (inr p) (inl q) = absurd (fault_excludes robot root y p.order kept q p.ordered p.accepted)
+one_fault_in_all robot root x y kept (inr p) (inr q) = constant_fault_once robot root x y kept p q

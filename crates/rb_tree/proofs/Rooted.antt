@@ -13,16 +13,11 @@ use Rattle.rb_tree.specs.declared.faults.TreeFault.{TreeFault}
 use Rattle.rb_tree.specs.declared.faults.TreeKind.TheVariants.{NoRoot, TwoRoots}
 use Rattle.rb_tree.specs.declared.faults.WhichFile.TheVariants.{Urdf}
 use Rattle.rb_tree.specs.Roots.{IsChild, HaveOneParent, IsRootFrom, HasRootBelow, HasRootFault}
-use Rattle.rb_tree.proofs.Stems.{read_same}
+use Rattle.rb_tree.proofs.ListLaws.{pairs_more}
 
 pub parents_more : (joints : List UrdfJoint) (n : ℕ) (joint : UrdfJoint) → n < length joints → joint ≡ get_or joints n joint →
     HaveOneParent (take n joints) → (IsChild (take n joints) joint.child → ⊥) → HaveOneParent (take (n + 1) joints)
-parents_more joints n joint within is one first =
-    let R : UrdfJoint → UrdfJoint → Type 0 = λ a b. a.child ≢ b.child in
-    let One : List UrdfJoint → Type 0 = λ xs. AllPairs R xs in
-    let e : take (n + 1) joints ≡ take n joints ++ joint ∷ [] = take_more joints n joint within ∙ ap (λ x. take n joints ++ x ∷ []) (sym is) in
-    subst One (sym e) (all_pairs_push R (take n joints) joint one
-    (λ k d kl same. first (k, get_or (take n joints) k d, kl, read_same (take n joints) k (get_or (take n joints) k d) d kl, same)))
+parents_more joints n joint within is one first = pairs_more (λ (a b : UrdfJoint). a.child ≡ b.child) joints n joint within is one first
 
 -- the first link that is no child, and no other below n
 pub root_below : (joints : List UrdfJoint) (links root n : ℕ) → IsRootFrom joints 0 links root → root < n →

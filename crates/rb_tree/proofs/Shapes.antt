@@ -39,18 +39,18 @@ encloses_joint body kept =
 
 -- ---- shapes
 -- a body that follows another
-record Follower (o : Option Body) (master : ℕ) : Type 0 where
-  body : Body
-  mimic : Mimic
-  is : o ≡ Some body
-  mimic_is : body.mimic ≡ Some mimic
-  master_is : mimic.master ≡ master
+pub record Follower (o : Option Body) (master : ℕ) : Type 0 where
+  pub body : Body
+  pub mimic : Mimic
+  pub is : o ≡ Some body
+  pub mimic_is : body.mimic ≡ Some mimic
+  pub master_is : mimic.master ≡ master
 
 follower_by : (body : Body) (m : Option Mimic) (master : ℕ) → body.mimic ≡ m → master_of m ≡ Some master → Follower (Some body) master
 follower_by body None master e h = absurd cc
 follower_by body (Some mimic) master e h = record { body = body; mimic = mimic; is = refl; mimic_is = e; master_is = cc }
 
-follower : (o : Option Body) (master : ℕ) → option_map_or (λ (b : Body). master_of b.mimic) o None ≡ Some master → Follower o master
+pub follower : (o : Option Body) (master : ℕ) → option_map_or (λ (b : Body). master_of b.mimic) o None ≡ Some master → Follower o master
 follower None master h = absurd cc
 follower (Some body) master h = follower_by body body.mimic master refl h
 

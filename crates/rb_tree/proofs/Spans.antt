@@ -54,7 +54,7 @@ owner_spans n (b ∷ bodies) k owner h =
 
 -- ---- columns by number
 -- the sum grows
-sum_rises : (bodies : List Body) (i j : ℕ) → i ≤ j → sum_by own_columns (take i bodies) ≤ sum_by own_columns (take j bodies)
+pub sum_rises : (bodies : List Body) (i j : ℕ) → i ≤ j → sum_by own_columns (take i bodies) ≤ sum_by own_columns (take j bodies)
 sum_rises [] zero j h = omega arith
 sum_rises [] (suc i) zero h = omega arith
 sum_rises [] (suc i) (suc j) h = omega arith

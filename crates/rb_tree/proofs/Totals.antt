@@ -10,12 +10,12 @@ use Rattle.rb_tree.specs.Order.{no_stem}
 use Rattle.rb_tree.specs.Sizes.{bearer_of, columns_of, bearer_columns, stem_columns, PassColumns}
 use Rattle.rb_tree.specs.Grow.{stem_at}
 
-pub pass_columns : (joints : List UrdfJoint) (stems : List Stem) (i : ℕ) (joint : UrdfJoint) (total more at : ℕ) → i < length stems →
-    bearer_of joints (stem_at stems i).joint ≡ Some joint → at ≡ joint.place → sum_by (stem_columns joints) (take i stems) ≡ total → total ≤ MAX_COLUMNS →
-    more ≡ columns_of joint.kind → MAX_COLUMNS < total + more → PassColumns joints stems at
-pass_columns joints stems i joint total more at within bears place so_far few more_is passed =
-    let e = sum_by_more (stem_columns joints) stems i no_stem within in
-    let f : stem_columns joints (stem_at stems i) ≡ columns_of joint.kind = ap bearer_columns bears in
+pub pass_columns : (root : UrdfJoint) (joints : List UrdfJoint) (stems : List Stem) (i : ℕ) (joint : UrdfJoint) (total more at : ℕ) → i < length stems →
+    bearer_of root joints (stem_at stems i).joint ≡ Some joint → at ≡ joint.place → sum_by (stem_columns root joints) (take i stems) ≡ total → total ≤ MAX_COLUMNS →
+    more ≡ columns_of joint.kind → MAX_COLUMNS < total + more → PassColumns root joints stems at
+pass_columns root joints stems i joint total more at within bears place so_far few more_is passed =
+    let e = sum_by_more (stem_columns root joints) stems i no_stem within in
+    let f : stem_columns root joints (stem_at stems i) ≡ columns_of joint.kind = ap bearer_columns bears in
     record {
       number = i;
       stem = stem_at stems i;

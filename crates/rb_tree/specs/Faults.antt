@@ -1,13 +1,36 @@
--- Faults of a robot's own file, and the places that they name.
-use Rattle.std.specs.Prelude.{◌≡◌, ℕ, List, Some, slice_get}
+-- Faults of a robot's own file, their texts, and the places that they name.
+use Rattle.std.specs.Prelude.{◌≡◌, ℕ, List, ◌++◌, codes, decimal, Some, slice_get}
 use Rattle.rb_urdf.specs.declared.robot.UrdfLink.{UrdfLink}
 use Rattle.rb_tree.specs.declared.faults.TreeFault.{TreeFault}
 use Rattle.rb_tree.specs.declared.faults.TreeKind.{TreeKind}
-use Rattle.rb_tree.specs.declared.faults.TreeKind.TheVariants.{Memory}
+use Rattle.rb_tree.specs.declared.faults.TreeKind.TheVariants as Kind
+use Rattle.rb_tree.specs.declared.faults.WhichFile.{WhichFile}
 use Rattle.rb_tree.specs.declared.faults.WhichFile.TheVariants.{Urdf}
 
 abbrev pub no_memory : TreeFault
-no_memory = record { kind = Memory; file = Urdf; at = 0 }
+no_memory = record { kind = Kind.Memory; file = Urdf; at = 0 }
+
+abbrev pub kind_word : TreeKind → List ℕ
+kind_word Kind.Unbuilt = codes "Unbuilt"
+kind_word Kind.TooManyLinks = codes "TooManyLinks"
+kind_word Kind.TwoParents = codes "TwoParents"
+kind_word Kind.NoRoot = codes "NoRoot"
+kind_word Kind.TwoRoots = codes "TwoRoots"
+kind_word Kind.Cycle = codes "Cycle"
+kind_word Kind.RootName = codes "RootName"
+kind_word Kind.NameTwice = codes "NameTwice"
+kind_word Kind.TooManyColumns = codes "TooManyColumns"
+kind_word Kind.AngleRange = codes "AngleRange"
+kind_word Kind.ZeroAxis = codes "ZeroAxis"
+kind_word Kind.Size = codes "Size"
+kind_word Kind.Memory = codes "Memory"
+
+abbrev pub file_word : WhichFile → List ℕ
+file_word Urdf = codes "urdf"
+
+-- the file, the kind and the place
+abbrev pub fault_text : TreeFault → List ℕ
+fault_text fault = file_word fault.file ++ codes ": " ++ kind_word fault.kind ++ codes " at " ++ decimal fault.at
 
 -- a fault of this kind, of which more is known
 abbrev pub IsOfKind : TreeKind → TreeFault → Type 0 → Type 0

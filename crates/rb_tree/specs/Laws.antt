@@ -1,62 +1,81 @@
 -- What orders, robots and faults are to each other, for each robot file that keeps what such files keep; and what each robot is.
-use Rattle.std.specs.Prelude.{◌≡◌, ℕ, ◌<◌, ◌≤◌, List, take, sum_by, Ok}
-use Rattle.std.specs.List.{All}
-use Rattle.rb_num.specs.Interval.{zero_interval}
+use Rattle.std.specs.Prelude.{◌≡◌, ℕ, ◌<◌, ◌≤◌, List, take, sum_by, Option, None, Some, Ok}
+use Rattle.rb_tags.specs.declared.root.RootKind.{RootKind}
+use Rattle.rb_tags.specs.declared.root.RootKind.TheVariants as Root
+use Rattle.rb_num.specs.Interval.{Interval, zero_interval}
+use Rattle.rb_frac.specs.Spatial.{Frame}
 use Rattle.rb_frac.specs.Tables.{identity, nothing}
 use Rattle.rb_num.specs.Arith.{intervals, signs_of}
 use Rattle.rb_flat.specs.Shape.{MimicsFit}
+use Rattle.rb_flat.specs.Choice.{Choice, IsChoice}
+use Rattle.rb_joint.specs.declared.any.AnyJoint.{AnyJoint}
 use Rattle.rb_joint.specs.declared.any.AnyJoint.TheVariants as Variant
-use Rattle.rb_urdf.specs.declared.robot.UrdfKind.TheVariants.{Fixed}
+use Rattle.rb_urdf.specs.declared.robot.UrdfJoint.{UrdfJoint}
 use Rattle.rb_urdf.specs.Numbers.{zeros}
 use Rattle.rb_urdf.specs.Robot.{Robot, IsRobot}
 use Rattle.rb_tree.specs.declared.faults.TreeFault.{TreeFault}
 use Rattle.rb_tree.specs.declared.order.Stem.{Stem}
 use Rattle.rb_tree.specs.declared.robot.Body.{Body}
-use Rattle.rb_tree.specs.Sizes.{IsBuildable}
-use Rattle.rb_tree.specs.Order.{IsOrder, HasOrderFault, IsFewInAll}
+use Rattle.rb_tree.specs.Order.{IsOrder, IsAccepted, HasOrderFault}
 use Rattle.rb_tree.specs.Columns.{own_columns, parent_at, columns_at, nearest_column}
 use Rattle.rb_tree.specs.Robot.{Tree, AreBodies}
-use Rattle.rb_tree.specs.Parts.{root_joint, joint_made}
+use Rattle.rb_tree.specs.Parts.{root_kind, root_joint, joint_made}
 use Rattle.rb_tree.specs.Build.{IsBuilt, HasFault}
-use Rattle.rb_tree.specs.Shape.{shape_of}
+use Rattle.rb_tree.specs.Shape.{shape_of, brackets_of}
+use Rattle.rb_tree.specs.State.{Row, IsRow, state_brackets}
 
 -- ---- orders
 -- a robot has at most one order
 abbrev pub HasOneOrder : Type 0
 HasOneOrder = (robot : Robot) (a b : List Stem) → IsRobot robot.links robot.joints → IsOrder robot a → IsOrder robot b → a ≡ b
 
--- a robot with a fault has no order, or has too many links or columns or a joint that is not built
+-- with a fault it has no order, or one that is not accepted
 abbrev pub FaultExcludesOrder : Type 0
-FaultExcludesOrder = (robot : Robot) (fault : TreeFault) (stems : List Stem) → IsRobot robot.links robot.joints → HasOrderFault robot fault →
-    IsOrder robot stems → All IsBuildable robot.joints → IsFewInAll robot stems → ⊥
+FaultExcludesOrder = (robot : Robot) (root : UrdfJoint) (fault : TreeFault) (stems : List Stem) → IsRobot robot.links robot.joints → HasOrderFault robot root fault →
+    IsOrder robot stems → IsAccepted robot root stems → ⊥
 
--- a robot has at most one fault
+-- it has at most one fault
 abbrev pub HasOneFault : Type 0
-HasOneFault = (robot : Robot) (a b : TreeFault) → IsRobot robot.links robot.joints → HasOrderFault robot a → HasOrderFault robot b → a ≡ b
+HasOneFault = (robot : Robot) (root : UrdfJoint) (a b : TreeFault) → IsRobot robot.links robot.joints → HasOrderFault robot root a → HasOrderFault robot root b → a ≡ b
 
 -- ---- robots
 -- a robot file gives at most one robot
 abbrev pub IsBuiltOnce : Type 0
-IsBuiltOnce = (robot : Robot) (a b : Tree) → IsRobot robot.links robot.joints → IsBuilt robot a → IsBuilt robot b → a ≡ b
+IsBuiltOnce = (robot : Robot) (root : UrdfJoint) (a b : Tree) → IsRobot robot.links robot.joints → IsBuilt robot root a → IsBuilt robot root b → a ≡ b
 
 -- the order of the refusals and their places leave at most one fault
 abbrev pub HasOneFaultInAll : Type 0
-HasOneFaultInAll = (robot : Robot) (a b : TreeFault) → IsRobot robot.links robot.joints → HasFault robot a → HasFault robot b → a ≡ b
+HasOneFaultInAll = (robot : Robot) (root : UrdfJoint) (a b : TreeFault) → IsRobot robot.links robot.joints → HasFault robot root a → HasFault robot root b → a ≡ b
 
 -- a robot file with a fault gives no robot
 abbrev pub FaultExcludesRobot : Type 0
-FaultExcludesRobot = (robot : Robot) (fault : TreeFault) (tree : Tree) → IsRobot robot.links robot.joints → HasFault robot fault → IsBuilt robot tree → ⊥
+FaultExcludesRobot = (robot : Robot) (root : UrdfJoint) (fault : TreeFault) (tree : Tree) → IsRobot robot.links robot.joints → HasFault robot root fault → IsBuilt robot root tree → ⊥
 
--- the root's joint is fixed, and its frame is the identity
-abbrev pub RootStandsStill : Type 0
-RootStandsStill =
-    let signs = signs_of intervals in
-    (at : ℕ) → joint_made (root_joint at)
-    ≡ Ok (Variant.Fixed (record { frame = record { rot = identity signs; at = nothing signs } }), record { kind = Fixed; xyz = zeros; rpy = zeros; axis = zeros; factor = zero_interval })
+-- the frame of the world
+abbrev pub still : Frame Interval
+still = let signs = signs_of intervals in record { rot = identity signs; at = nothing signs }
+
+-- in the frame that is the identity, the model of a root's joint
+abbrev pub root_model : Option RootKind → AnyJoint
+root_model None = Variant.Fixed (record { frame = still })
+root_model (Some Root.Fixed) = Variant.Fixed (record { frame = still })
+root_model (Some Root.Planar) = Variant.Planar (record { frame = still })
+root_model (Some Root.Floating) = Variant.Free (record { frame = still })
+
+-- the root's joint is of the kind that is asked for, else fixed, and its frame is the identity
+abbrev pub RootStandsAtOrigin : Type 0
+RootStandsAtOrigin =
+    (root : Option RootKind) (name : List ℕ) (at : ℕ) → joint_made (root_joint (root_kind root) name at)
+    ≡ Ok (root_model root, record { kind = root_kind root; xyz = zeros; rpy = zeros; axis = zeros; factor = zero_interval })
 
 -- joints that follow others may
 abbrev pub MimicsFitShape : Type 0
 MimicsFitShape = (tree : Tree) → AreBodies tree.bodies → MimicsFit (shape_of tree)
+
+-- each robot has a choice in each state
+abbrev pub HasChoiceInState : Type 0
+HasChoiceInState = (tree : Tree) (row : Row) → AreBodies tree.bodies → IsRow row.q row.v row.a row.tau row.gravity →
+    (c : Choice) × IsChoice (brackets_of tree) (state_brackets row) c
 
 -- ---- the nearest column upward of a body, by its own column, its parent and the world alone
 -- parents have smaller numbers

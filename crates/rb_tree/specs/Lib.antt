@@ -8,8 +8,12 @@ pub mod Roots
 pub mod Order
 pub mod Grow
 pub mod Columns
+pub mod Numbers
 pub mod Robot
 pub mod Parts
 pub mod Build
+pub mod Names
 pub mod Shape
+pub mod State
+pub mod Places
 pub mod Laws

@@ -1,13 +1,17 @@
 -- What a link and the joint that bears it give a body, or why they are refused.
-use Rattle.std.specs.Prelude.{◌≡◌, ◌⊎◌, ℕ, ◌∷◌, [], None, Result, Ok, Err, IsOk}
+use Rattle.std.specs.Prelude.{◌≡◌, ◌⊎◌, ℕ, List, codes, Option, None, Some, Result, Ok, Err, IsOk}
 use Rattle.rb_num.specs.Interval.{Interval}
 use Rattle.rb_frac.specs.Spatial.{BodyInertia}
 use Rattle.rb_result.specs.Steps.{placed}
 use Rattle.rb_joint.specs.declared.any.AnyJoint.{AnyJoint}
-use Rattle.rb_urdf.specs.declared.robot.UrdfKind.TheVariants.{Fixed}
+use Rattle.rb_urdf.specs.declared.robot.UrdfKind.{UrdfKind}
+use Rattle.rb_urdf.specs.declared.robot.UrdfKind.TheVariants.{Fixed, Planar, Floating}
+use Rattle.rb_tags.specs.declared.root.RootKind.{RootKind}
+use Rattle.rb_tags.specs.declared.root.RootKind.TheVariants as Root
 use Rattle.rb_urdf.specs.declared.robot.UrdfLink.{UrdfLink}
 use Rattle.rb_urdf.specs.declared.robot.UrdfJoint.{UrdfJoint}
 use Rattle.rb_urdf.specs.Numbers.{zeros}
+use Rattle.rb_urdf.specs.Robot.{Robot}
 use Rattle.rb_body.specs.declared.faults.BodyFault.{BodyFault}
 use Rattle.rb_body.specs.declared.faults.BodyFault.TheVariants as Why
 use Rattle.rb_body.specs.declared.raw.LinkRaw.{LinkRaw}
@@ -41,12 +45,20 @@ inertia_made link = placed fault_at link.place (inertia_by (link_brackets (raw_o
 unfoldable pub joint_made : UrdfJoint → Result (AnyJoint × JointRaw) TreeFault
 joint_made joint = placed fault_at joint.place (joint_by joint.kind joint.xyz joint.rpy joint.axis)
 
--- the joint of the root: it holds the root still at the world, and its place is that of the robot
-abbrev pub root_joint : ℕ → UrdfJoint
-root_joint at = record {
-  name = 114 ∷ 111 ∷ 111 ∷ 116 ∷ 95 ∷ 106 ∷ 111 ∷ 105 ∷ 110 ∷ 116 ∷ [];
+-- ---- the root
+-- the kind of the root's joint, which is fixed where none is asked for
+abbrev pub root_kind : Option RootKind → UrdfKind
+root_kind None = Fixed
+root_kind (Some Root.Fixed) = Fixed
+root_kind (Some Root.Planar) = Planar
+root_kind (Some Root.Floating) = Floating
+
+-- the joint of this kind and name that bears the root: its frame is the identity, and its place that of the robot
+abbrev pub root_joint : UrdfKind → List ℕ → ℕ → UrdfJoint
+root_joint kind name at = record {
+  name = name;
   place = at;
-  kind = Fixed;
+  kind = kind;
   parent = 0;
   child = 0;
   xyz = zeros;
@@ -54,6 +66,10 @@ root_joint at = record {
   axis = zeros;
   mimic = None;
 }
+
+-- the joint that bears the root of a robot
+abbrev pub root_of : Robot → Option RootKind → UrdfJoint
+root_of robot root = root_joint (root_kind root) (codes "root_joint") robot.place
 
 -- a body has the names, the brackets and the constants of its link and its joint
 pub record IsMadeOf (link : UrdfLink) (joint : UrdfJoint) (body : Body) : Type 0 where

@@ -6,16 +6,18 @@ use Rattle.rb_spatial.specs.Vectors.{vector_of}
 use Rattle.rb_trig.specs.Axis.{MakesUnit}
 use Rattle.rb_flat.specs.Joint.{entry_count}
 use Rattle.rb_flat.specs.Joint as Kinds
+use Rattle.rb_flat.specs.Choice.{MimicBrackets, LinkOrdered, JointOrdered, MimicOrdered}
 use Rattle.rb_joint.specs.Any.{kind_of}
 use Rattle.rb_urdf.specs.Numbers.{zeros}
 use Rattle.rb_body.specs.declared.raw.JointRaw.{JointRaw}
-use Rattle.rb_body.specs.Raw.{HasAxis, link_brackets}
+use Rattle.rb_body.specs.Raw.{HasAxis, link_brackets, joint_brackets}
 use Rattle.rb_body.specs.Inertia.{inertia_by}
 use Rattle.rb_body.specs.Joint.{joint_by}
 use Rattle.rb_tree.specs.declared.robot.Body.{Body}
 use Rattle.rb_tree.specs.declared.robot.Mimic.{Mimic}
 use Rattle.rb_tree.specs.declared.columns.Start.{Start}
 use Rattle.rb_tree.specs.declared.sizes.TheConstants.{MAX_LINKS, MAX_COLUMNS}
+use Rattle.rb_tree.specs.Names.{ShareName}
 use Rattle.rb_tree.specs.Columns.{body_at, parent_at, leader_at, full_count, column_count, owners_from, AreUps, AreStarts}
 
 -- its name, and its bodies from body 1 on
@@ -39,11 +41,13 @@ pub record IsAxisKept (raw : JointRaw) : Type 0 where
   pub unit : HasAxis raw.kind → MakesUnit (vector_of raw.axis).x (vector_of raw.axis).y (vector_of raw.axis).z raw.factor
   pub zero : ¬ HasAxis raw.kind → (raw.axis ≡ zeros) × (raw.factor ≡ zero_interval)
 
--- the inertia and the joint are those that the body's brackets give
+-- the inertia and the joint are those that the body's brackets give, and the ends of these are in order
 pub record IsBodyKept (body : Body) : Type 0 where
   pub inertia : inertia_by (link_brackets body.link_raw) ≡ Ok body.inertia
   pub joint : joint_by body.joint_raw.kind body.joint_raw.xyz body.joint_raw.rpy body.joint_raw.axis ≡ Ok (body.joint, body.joint_raw)
   pub axis : IsAxisKept body.joint_raw
+  pub link_ordered : LinkOrdered (link_brackets body.link_raw)
+  pub joint_ordered : JointOrdered (joint_brackets body.joint_raw)
 
 -- ---- names
 -- no other body has a link of this name
@@ -58,14 +62,24 @@ HasOwnJointName i body = (1 < i) ⊎ (kind_of body.joint ≢ Kinds.Fixed)
 abbrev pub IsOnlyJoint : List Body → ℕ → List ℕ → Type 0
 IsOnlyJoint bodies i name = (j : ℕ) (body : Body) → j ≢ i → body_at bodies j ≡ Some body → HasOwnJointName j body → body.joint_name ≢ name
 
+-- no two bodies have a name of entries in common, or of columns; a joint that follows another has none of its own
+abbrev pub HaveOwnNames : List Body → Type 0
+HaveOwnNames bodies = (i j : ℕ) (a b : Body) → i ≢ j → body_at bodies i ≡ Some a → body_at bodies j ≡ Some b → a.mimic ≡ None → b.mimic ≡ None →
+    ShareName (kind_of a.joint) a.joint_name (kind_of b.joint) b.joint_name → ⊥
+
 -- ---- joints that follow others
--- both have one entry, and the other is the joint of a body that follows none
+-- the brackets of a joint that follows another
+abbrev pub mimic_brackets : Mimic → MimicBrackets
+mimic_brackets mimic = record { multiplier = mimic.multiplier; offset = mimic.offset }
+
+-- both have one entry, and the other is the joint of a body that follows none; the ends of the brackets are in order
 pub record FollowsMaster (bodies : List Body) (body : Body) (mimic : Mimic) : Type 0 where
   pub master : Body
   pub is : body_at bodies mimic.master ≡ Some master
   pub leads : master.mimic ≡ None
   pub entry : entry_count (kind_of body.joint) ≡ 1
   pub master_entry : entry_count (kind_of master.joint) ≡ 1
+  pub ordered : MimicOrdered (mimic_brackets mimic)
 
 -- ---- robots
 -- what the bodies of each robot keep: the parent of a body has a smaller number, and the body that it moves by is there
@@ -81,6 +95,7 @@ pub record AreBodies (bodies : List Body) : Type 0 where
   pub follows : (i : ℕ) (body : Body) (mimic : Mimic) → body_at bodies i ≡ Some body → body.mimic ≡ Some mimic → FollowsMaster bodies body mimic
   pub links : (i : ℕ) (body : Body) → body_at bodies i ≡ Some body → IsOnlyLink bodies i body.link_name
   pub joints : (i : ℕ) (body : Body) → body_at bodies i ≡ Some body → HasOwnJointName i body → IsOnlyJoint bodies i body.joint_name
+  pub names : HaveOwnNames bodies
   pub kept : AllByRecursion IsBodyKept bodies
 
 -- the bodies, where their columns begin, the bodies of the columns, and the columns upward

@@ -12,8 +12,8 @@ use Rattle.rb_joint.specs.Any.{kind_of}
 use Rattle.rb_body.specs.Raw.{link_brackets, joint_brackets}
 use Rattle.rb_tree.specs.declared.robot.Body.{Body}
 use Rattle.rb_tree.specs.declared.robot.Mimic.{Mimic}
-use Rattle.rb_tree.specs.Columns.{body_at, parent_at, column_count, first_column, first_entry}
-use Rattle.rb_tree.specs.Robot.{Tree}
+use Rattle.rb_tree.specs.Columns.{body_at, parent_at, column_count, first_column, first_entry, body_of_column}
+use Rattle.rb_tree.specs.Robot.{Tree, mimic_brackets}
 
 -- ---- of a body by its number
 abbrev pub kind_at : List Body → ℕ → Kind
@@ -36,6 +36,7 @@ shape_of tree = record {
   first_column = first_column tree.bodies;
   first_entry = first_entry tree.bodies;
   mimic = master_at tree.bodies;
+  owner = body_of_column tree.bodies;
 }
 
 -- what stands where there is no body, or no joint that it follows
@@ -49,14 +50,13 @@ no_joint =
     let o = nothing (signs_of intervals) in
     record { origin = o; rpy = o; axis = o; factor = zero_interval }
 
-abbrev pub mimic_brackets : Option Mimic → MimicBrackets
-mimic_brackets None = record { multiplier = zero_interval; offset = zero_interval }
-mimic_brackets (Some mimic) = record { multiplier = mimic.multiplier; offset = mimic.offset }
+abbrev pub no_mimic : MimicBrackets
+no_mimic = record { multiplier = zero_interval; offset = zero_interval }
 
 abbrev pub brackets_of : Tree → RobotBrackets
 brackets_of tree = record {
   shape = shape_of tree;
   link = λ i. option_map_or (λ body. link_brackets body.link_raw) (body_at tree.bodies i) no_link;
   joint = λ i. option_map_or (λ body. joint_brackets body.joint_raw) (body_at tree.bodies i) no_joint;
-  mimic = λ i. option_map_or (λ body. mimic_brackets body.mimic) (body_at tree.bodies i) (mimic_brackets None);
+  mimic = λ i. option_map_or (λ body. option_map_or mimic_brackets body.mimic no_mimic) (body_at tree.bodies i) no_mimic;
 }

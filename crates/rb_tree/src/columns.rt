@@ -31,7 +31,8 @@ fn own_columns(body: &Body) -> u32
     }
 }
 
-fn own_entries(body: &Body) -> usize
+/// How many entries the body's joint has of its own.
+pub(crate) fn own_entries(body: &Body) -> usize
     ensures value { result ≡ own_entries_of body.now }
     ensures few { result ≤ 7 }
 {

@@ -1,13 +1,15 @@
-ghost use Rattle.std.specs.Prelude.{◌≡◌};
+ghost use Rattle.std.specs.Prelude.{◌≡◌, Some};
 ghost use Rattle.rb_tree.specs.declared.faults.WhichFile.TheVariants.{Urdf};
-ghost use Rattle.rb_tree.specs.Faults.{no_memory};
+ghost use Rattle.rb_tree.specs.Faults.{no_memory, kind_word, file_word, fault_text};
 
 use std::alloc::{AllocError, AllocFailed};
+use std::error::Error;
+use std::fmt;
 
 /// What is wrong with the tree of a robot. The place is that of the element that each kind names.
 #[derive(Clone, Copy, Debug, PartialEq, Eq)]
 pub enum TreeKind {
-    /// A joint is continuous, planar or floating, or follows another.
+    /// A joint follows another.
     Unbuilt,
     /// There are more than `MAX_LINKS` links: the first behind these.
     TooManyLinks,
@@ -19,6 +21,10 @@ pub enum TreeKind {
     TwoRoots,
     /// A link that no way of joints reaches from the root.
     Cycle,
+    /// The joint of the root, which has columns, has the name of this joint.
+    RootName,
+    /// Two entries of the position, or two columns, have one name: this joint and that of an earlier body have it.
+    NameTwice,
     /// With this joint, in the order of the bodies, there are more than `MAX_COLUMNS` columns.
     TooManyColumns,
     /// An angle is too large.
@@ -31,11 +37,60 @@ pub enum TreeKind {
     Memory,
 }
 
+impl TreeKind {
+    /// Its word.
+    pub fn word(self) -> &'static str
+        ensures { result.now ≡ kind_word self }
+    {
+        match self {
+            TreeKind::Unbuilt => "Unbuilt",
+            TreeKind::TooManyLinks => "TooManyLinks",
+            TreeKind::TwoParents => "TwoParents",
+            TreeKind::NoRoot => "NoRoot",
+            TreeKind::TwoRoots => "TwoRoots",
+            TreeKind::Cycle => "Cycle",
+            TreeKind::RootName => "RootName",
+            TreeKind::NameTwice => "NameTwice",
+            TreeKind::TooManyColumns => "TooManyColumns",
+            TreeKind::AngleRange => "AngleRange",
+            TreeKind::ZeroAxis => "ZeroAxis",
+            TreeKind::Size => "Size",
+            TreeKind::Memory => "Memory",
+        }
+    }
+}
+
+impl fmt::Display for TreeKind {
+    ghost output = { λ kind. Some (kind_word kind) };
+
+    fn fmt<W: fmt::Write>(&self, f: &mut fmt::Formatter<W>) -> fmt::Result {
+        f.write_str(self.word())
+    }
+}
+
 /// The file that a fault is in.
 #[derive(Clone, Copy, Debug, PartialEq, Eq)]
 pub enum WhichFile {
     Urdf,
-    Srdf,
+}
+
+impl WhichFile {
+    /// Its word.
+    pub fn word(self) -> &'static str
+        ensures { result.now ≡ file_word self }
+    {
+        match self {
+            WhichFile::Urdf => "urdf",
+        }
+    }
+}
+
+impl fmt::Display for WhichFile {
+    ghost output = { λ file. Some (file_word file) };
+
+    fn fmt<W: fmt::Write>(&self, f: &mut fmt::Formatter<W>) -> fmt::Result {
+        f.write_str(self.word())
+    }
 }
 
 /// What is wrong, in which file, and the place of the element's `<` in bytes of that file from 0.
@@ -45,6 +100,17 @@ pub struct TreeFault {
     pub file: WhichFile,
     pub at: u64,
 }
+
+impl fmt::Display for TreeFault {
+    ghost output = { λ fault. Some (fault_text fault) };
+
+    fn fmt<W: fmt::Write>(&self, f: &mut fmt::Formatter<W>) -> fmt::Result {
+        let TreeFault { kind, file, at } = *self;
+        write!(f, "{file}: {kind} at {at}")
+    }
+}
+
+impl Error for TreeFault {}
 
 /// A fault of the robot's own file.
 pub(crate) fn fault(kind: TreeKind, at: u64) -> TreeFault

@@ -1,4 +1,7 @@
-ghost use Rattle.rb_tree.specs.Laws.{HasOneOrder, HasOneFault, FaultExcludesOrder, IsBuiltOnce, HasOneFaultInAll, FaultExcludesRobot, RootStandsStill, MimicsFitShape, WorldHasNoColumn, BodyHasItsLast, BodyHasItsParents};
+ghost use Rattle.rb_tree.specs.Laws.{HasOneOrder, HasOneFault, FaultExcludesOrder, IsBuiltOnce, HasOneFaultInAll, FaultExcludesRobot, RootStandsAtOrigin, MimicsFitShape, HasChoiceInState, WorldHasNoColumn, BodyHasItsLast, BodyHasItsParents};
+ghost use Rattle.rb_tree.specs.Robot.{Tree};
+ghost use Rattle.rb_tree.specs.State.{Row};
+ghost use Rattle.rb_tree.specs.Places.{PlacesHaveOneAnswer};
 
 /// A robot has at most one order of bodies.
 pub fn one_order_law()
@@ -10,7 +13,7 @@ pub fn one_fault_law()
     ensures { HasOneFault }
 {}
 
-/// A robot with a fault has no order of few enough bodies and columns with joints that are built.
+/// A robot with a fault has no order that is accepted.
 pub fn fault_excludes_order_law()
     ensures { FaultExcludesOrder }
 {}
@@ -22,14 +25,19 @@ pub fn one_answer_law()
     ensures either { FaultExcludesRobot }
 {}
 
-/// The joint of a root is fixed, and its frame is the identity.
+/// The joint of a root is of the kind that is asked for, else fixed, and its frame is the identity.
 pub fn root_law()
-    ensures { RootStandsStill }
+    ensures { RootStandsAtOrigin }
 {}
 
-/// Where a joint of a robot follows another, it may: both have one entry, and the other follows none. So each such robot has a choice.
+/// Where a joint of a robot follows another, it may: both have one entry, and the other follows none.
 pub fn mimics_law()
     ensures { MimicsFitShape }
+{}
+
+/// A robot has a choice in each state: there are numbers in all brackets that meet the joint relation.
+pub fn choice_law()
+    ensures { HasChoiceInState }
 {}
 
 /// The nearest column upward of a body is its own last one, else that of its parent; the world has none.
@@ -37,4 +45,9 @@ pub fn nearest_column_law()
     ensures world { WorldHasNoColumn }
     ensures own { BodyHasItsLast }
     ensures parent { BodyHasItsParents }
+{}
+
+/// The entries and places of a robot in a row, or the refusal, are the same whatever a work held before.
+pub fn places_law()
+    ensures { (tree : Tree) (row : Row) → PlacesHaveOneAnswer tree row }
 {}

@@ -1,4 +1,5 @@
-//! Trees of rigid bodies: the bodies of a robot in their order, with their joints, their inertias and their columns.
+//! Trees of rigid bodies: the bodies of a robot in their order, with their joints, their inertias, their columns and the names of these; and
+//! states, the numbers of one row.
 #![tactic(auto)]
 
 mod build;
@@ -6,16 +7,26 @@ mod columns;
 mod faults;
 mod grow;
 pub mod laws;
+mod names;
 mod order;
 mod parts;
+mod places;
 mod robot;
 mod roots;
 mod sizes;
+mod state;
 
 pub use faults::{TreeFault, TreeKind, WhichFile};
-pub use rb_body::{JointRaw, LinkRaw};
+pub use names::{column_suffixes, entry_suffixes};
+pub use places::place_all;
+pub use rb_body::{AnyJoint, BodyInertia, JointRaw, LinkRaw, UrdfKind};
+pub use rb_num::Iv;
+pub use rb_spatial::Vec3;
+pub use rb_tags::RootKind;
+pub use rb_urdf::UrdfRobot;
 pub use robot::{Body, Mimic, Robot};
 pub use sizes::{MAX_COLUMNS, MAX_LINKS};
+pub use state::State;
 
 #[cfg(test)]
 mod robot_tests;

@@ -1,15 +1,14 @@
-ghost use Rattle.std.specs.Prelude.{◌≡◌, ◌⊎◌, ◌≤◌, length, IfOk, IfErr};
-ghost use Rattle.std.specs.List.{All};
+ghost use Rattle.std.specs.Prelude.{◌≡◌, ◌⊎◌, IfOk, IfErr};
 ghost use Rattle.rb_urdf.specs.Robot.{IsRobot};
-ghost use Rattle.rb_tree.specs.Sizes.{IsBuildable};
-ghost use Rattle.rb_tree.specs.Order.{IsOrder, HasOrderFault, IsFewInAll};
+ghost use Rattle.rb_urdf.specs.declared.robot.UrdfJoint.{UrdfJoint as Joint};
+ghost use Rattle.rb_tree.specs.Order.{IsOrder, IsForest, IsAccepted, HasOrderFault};
 ghost use Rattle.rb_tree.specs.Faults.{no_memory};
 
 use crate::faults::{TreeFault, TreeKind, fault};
 use crate::grow::{first_apart, stems_of};
 use crate::roots::{check_parents, root_of};
-use crate::sizes::{check_built, check_columns, check_links};
-use rb_urdf::UrdfRobot;
+use crate::sizes::{check_built, check_columns, check_links, check_names, check_root};
+use rb_urdf::{UrdfJoint, UrdfRobot};
 use std::alloc::Global;
 
 /// A body in the order: its link, the joint that bears it (none bears the root), both by their numbers from 0 in file order, and the number
@@ -22,12 +21,11 @@ pub(crate) struct Stem {
 }
 
 /// The bodies of the robot in their order, from the root.
-pub(crate) fn order_of(alloc: Global, robot: &UrdfRobot) -> Result<Vec<Stem>, TreeFault>
+fn stems_in(alloc: Global, robot: &UrdfRobot) -> Result<Vec<Stem>, TreeFault>
     ensures kept { IfOk result (λ _. IsRobot robot.now.links robot.now.joints) }
     ensures ok { IfOk result (λ stems. IsOrder robot.now stems.items) }
-    ensures built { IfOk result (λ stems. All IsBuildable robot.now.joints) }
-    ensures few { IfOk result (λ stems. IsFewInAll robot.now stems.items) }
-    ensures err { IfErr result (λ fault. (fault ≡ no_memory) ⊎ HasOrderFault robot.now fault) }
+    ensures forest { IfOk result (λ _. IsForest robot.now) }
+    ensures err { IfErr result (λ fault. (fault ≡ no_memory) ⊎ ((root : Joint) → HasOrderFault robot.now root fault)) }
 {
     let links = robot.links().as_slice();
     let joints = robot.joints().as_slice();
@@ -39,6 +37,24 @@ pub(crate) fn order_of(alloc: Global, robot: &UrdfRobot) -> Result<Vec<Stem>, Tr
     if let Some(link) = first_apart(stems.as_slice(), links.len()) {
         return Err(fault(TreeKind::Cycle, links[link].place));
     }
-    check_columns(joints, stems.as_slice())?;
+    Ok(stems)
+}
+
+/// The bodies of the robot in their order, from the root, which this joint bears.
+pub(crate) fn order_of(
+    alloc: Global,
+    robot: &UrdfRobot,
+    root: &UrdfJoint,
+) -> Result<Vec<Stem>, TreeFault>
+    ensures kept { IfOk result (λ _. IsRobot robot.now.links robot.now.joints) }
+    ensures ok { IfOk result (λ stems. IsOrder robot.now stems.items) }
+    ensures accepted { IfOk result (λ stems. IsAccepted robot.now root.now stems.items) }
+    ensures err { IfErr result (λ fault. (fault ≡ no_memory) ⊎ HasOrderFault robot.now root.now fault) }
+{
+    let joints = robot.joints().as_slice();
+    let stems = stems_in(alloc, robot)?;
+    check_root(root, joints)?;
+    check_names(root, joints, stems.as_slice())?;
+    check_columns(root, joints, stems.as_slice())?;
     Ok(stems)
 }

@@ -1,11 +1,10 @@
 ghost use Rattle.std.specs.Prelude.{◌≡◌, ◌⊎◌, IfOk, IfErr};
-ghost use Rattle.rb_body.specs.Raw.{HasModel};
 ghost use Rattle.rb_body.specs.Joint.{HasNumbers};
-ghost use Rattle.rb_tree.specs.Sizes.{columns_of};
-ghost use Rattle.rb_tree.specs.Columns.{own_columns};
+ghost use Rattle.rb_joint.specs.Any.{kind_of as kind_of_model};
+ghost use Rattle.rb_body.specs.Raw.{kind_of as kind_of_joint};
 ghost use Rattle.rb_tree.specs.Robot.{IsBodyKept};
 ghost use Rattle.rb_tree.specs.Faults.{no_memory as no_memory_fault};
-ghost use Rattle.rb_tree.specs.Parts.{kind_of as kind_of_fault, raw_of as raw_of_link, root_joint as root_joint_at, inertia_made as inertia_made_of, joint_made as joint_made_of, IsMadeOf, IsRefusedAt};
+ghost use Rattle.rb_tree.specs.Parts.{kind_of as kind_of_fault, raw_of as raw_of_link, root_joint as root_joint_of, root_kind as root_kind_of, inertia_made as inertia_made_of, joint_made as joint_made_of, IsMadeOf, IsRefusedAt};
 
 use crate::faults::{TreeFault, TreeKind, fault};
 use crate::robot::Body;
@@ -13,7 +12,7 @@ use rb_body::{BodyFault, JointRaw, LinkRaw, inertia_of, joint_of};
 use rb_joint::AnyJoint;
 use rb_num::Iv;
 use rb_spatial::BodyInertia;
-use rb_tags::Text;
+use rb_tags::{RootKind, Text};
 use rb_urdf::{UrdfJoint, UrdfKind, UrdfLink};
 use std::alloc::{AllocError, Global};
 
@@ -50,7 +49,6 @@ fn inertia_made(link: &UrdfLink) -> Result<BodyInertia, TreeFault>
 
 #[tactic(auto, unfolding(crate::specs::Parts::joint_made))]
 fn joint_made(joint: &UrdfJoint) -> Result<(AnyJoint, JointRaw), TreeFault>
-    requires { HasModel joint.now.kind }
     ensures exact { result ≡ joint_made_of joint.now }
     ensures numbers { IfOk result (λ made. HasNumbers joint.now.kind joint.now.xyz joint.now.rpy joint.now.axis made.1) }
 {
@@ -60,15 +58,31 @@ fn joint_made(joint: &UrdfJoint) -> Result<(AnyJoint, JointRaw), TreeFault>
     }
 }
 
-/// The joint that holds the root still at the world, at this place of the file.
-pub(crate) fn root_joint(alloc: Global, place: u64) -> Result<UrdfJoint, AllocError>
-    ensures { IfOk result (λ joint. joint ≡ root_joint_at place) }
+/// The kind of the root's joint, which is fixed where none is asked for.
+pub(crate) fn root_kind(root: Option<RootKind>) -> UrdfKind
+    ensures { result ≡ root_kind_of root }
+{
+    match root {
+        None | Some(RootKind::Fixed) => UrdfKind::Fixed,
+        Some(RootKind::Planar) => UrdfKind::Planar,
+        Some(RootKind::Floating) => UrdfKind::Floating,
+    }
+}
+
+/// The joint of this kind and name that bears the root, at this place of the file. Its frame is the identity.
+pub(crate) fn root_joint(
+    alloc: Global,
+    kind: UrdfKind,
+    name: &str,
+    place: u64,
+) -> Result<UrdfJoint, AllocError>
+    ensures { IfOk result (λ joint. joint ≡ root_joint_of kind name.now place) }
 {
     let zeros = [Iv::ZERO, Iv::ZERO, Iv::ZERO];
     Ok(UrdfJoint {
-        name: Text::copy(alloc, "root_joint")?,
+        name: Text::copy(alloc, name)?,
         place,
-        kind: UrdfKind::Fixed,
+        kind,
         parent: 0,
         child: 0,
         xyz: zeros,
@@ -85,22 +99,24 @@ pub(crate) fn body_of(
     joint: &UrdfJoint,
     link: &UrdfLink,
 ) -> Result<Body, TreeFault>
-    requires { HasModel joint.now.kind }
     ensures parent { IfOk result (λ body. body.parent ≡ parent) }
     ensures made { IfOk result (IsMadeOf link.now joint.now) }
     ensures kept { IfOk result IsBodyKept }
-    ensures columns { IfOk result (λ body. own_columns body ≡ columns_of joint.now.kind) }
+    ensures kind { IfOk result (λ body. kind_of_model body.joint ≡ kind_of_joint joint.now.kind) }
     ensures err { IfErr result (λ fault. (fault ≡ no_memory_fault) ⊎ IsRefusedAt link.now joint.now fault) }
 {
     let (model, joint_raw) = joint_made(joint)?;
     let inertia = inertia_made(link)?;
+    let link_raw = raw_of(link);
+    link_raw.in_order();
+    joint_raw.in_order();
     Ok(Body {
         parent,
         joint: model,
         inertia,
         link_name: Text::copy(alloc, link.name.as_str())?,
         joint_name: Text::copy(alloc, joint.name.as_str())?,
-        link_raw: raw_of(link),
+        link_raw,
         joint_raw,
         mimic: None,
     })

@@ -1,5 +1,6 @@
 ghost use Rattle.std.specs.Prelude.{◌≡◌, ◌<◌, ◌≤◌, ◌+◌, ◌-◌, ◌*◌, IfOk, IfSome, length, slice_index, EachIndex};
 ghost use Rattle.std.specs.Option.{IsSomeAnd};
+ghost use Rattle.std.specs.Str.{IsUtf8};
 
 use crate::columns::{Start, has_mimic, owners_of, starts_of, ups_of};
 use rb_body::{JointRaw, LinkRaw};
@@ -58,7 +59,8 @@ impl Robot {
     ghost use Rattle.rb_body.specs.Inertia.{inertia_by, EnclosesInertia};
     ghost use Rattle.rb_body.specs.Joint.{joint_by, EnclosesJoint};
     ghost use Rattle.rb_tree.specs.declared.sizes.TheConstants.{MAX_LINKS, MAX_COLUMNS};
-    ghost use Rattle.rb_tree.specs.Columns.{body_at, full_at, columns_at, entries_at, body_of_column, up_of, first_full, first_column, first_entry, full_count, column_count, entry_count, has_mimic as has_mimic_in, start_behind, leader_at, AreUps};
+    ghost use Rattle.rb_tree.specs.Numbers.{joint_at, inertia_at, mimic_at};
+    ghost use Rattle.rb_tree.specs.Columns.{body_at, parent_at, full_at, columns_at, entries_at, body_of_column, up_of, first_full, first_column, first_entry, full_count, column_count, entry_count, has_mimic as has_mimic_in, start_behind, leader_at, AreUps};
     ghost use Rattle.rb_tree.specs.Robot.{HasBody, HasColumn, IsAxisKept, IsBodyKept, IsOnlyLink, HasOwnJointName, IsOnlyJoint, FollowsMaster, AreBodies};
 
     /// The robot of these bodies.
@@ -83,14 +85,17 @@ impl Robot {
         })
     }
 
-    /// Its name.
+    /// Its name, in UTF-8.
+    #[inline]
     pub fn name(&self) -> &[u8]
-        ensures { result.now ≡ self.now.name }
+        ensures name { result.now ≡ self.now.name }
+        ensures utf8 { IsUtf8 result.now }
     {
         self.name.as_str().as_bytes()
     }
 
     /// How many bodies it has.
+    #[inline]
     pub fn bodies(&self) -> u32
         ensures count { result ≡ length self.now.bodies }
         ensures some { 1 ≤ result }
@@ -98,6 +103,13 @@ impl Robot {
         ensures kept { AreBodies self.now.bodies }
     {
         self.bodies.len() as u32
+    }
+
+    pub(crate) fn body_list(&self) -> &[Body]
+        ensures bodies { result.now ≡ self.now.bodies }
+        ensures kept { AreBodies self.now.bodies }
+    {
+        self.bodies.as_slice()
     }
 
     fn body(&self, i: u32) -> &Body
@@ -111,19 +123,23 @@ impl Robot {
     }
 
     /// The number of the body's parent, 0 for the world.
+    #[inline]
     pub fn parent(&self, i: u32) -> u32
         requires { HasBody self.now i }
         ensures parent { IsSomeAnd (body_at self.now.bodies i) (λ body. body.parent ≡ result) }
+        ensures at { result ≡ parent_at self.now.bodies i }
         ensures above { result < i }
     {
         self.body(i).parent
     }
 
     /// The joint that bears the body: that which its brackets give. It encloses what they allow.
+    #[inline]
     #[tactic(auto, using(crate::proofs::Shapes::encloses_joint))]
     pub fn joint(&self, i: u32) -> &AnyJoint
         requires { HasBody self.now i }
         ensures joint { IsSomeAnd (body_at self.now.bodies i) (λ body. body.joint ≡ result.now) }
+        ensures at { result.now ≡ joint_at self.now.bodies i }
         ensures exact { IsSomeAnd (body_at self.now.bodies i) (λ body. joint_by body.joint_raw.kind body.joint_raw.xyz body.joint_raw.rpy body.joint_raw.axis ≡ Ok (result.now, body.joint_raw)) }
         ensures encloses { IsSomeAnd (body_at self.now.bodies i) (λ body. EnclosesJoint result.now body.joint_raw) }
     {
@@ -132,37 +148,44 @@ impl Robot {
 
     /// The inertia of the body, that which its link's brackets give: the mass in kilograms, the first moment in kg m, and the inertia about
     /// the body's origin in kg m². It encloses what the brackets allow.
+    #[inline]
     #[tactic(auto, using(crate::proofs::Shapes::encloses_inertia))]
     pub fn inertia(&self, i: u32) -> &BodyInertia
         requires { HasBody self.now i }
         ensures inertia { IsSomeAnd (body_at self.now.bodies i) (λ body. body.inertia ≡ result.now) }
+        ensures at { result.now ≡ inertia_at self.now.bodies i }
         ensures exact { IsSomeAnd (body_at self.now.bodies i) (λ body. inertia_by (link_brackets body.link_raw) ≡ Ok result.now) }
         ensures encloses { IsSomeAnd (body_at self.now.bodies i) (λ body. EnclosesInertia (link_brackets body.link_raw) result.now) }
     {
         &self.body(i).inertia
     }
 
-    /// The name of the body's link, which no other body's link has.
+    /// The name of the body's link, in UTF-8, which no other body's link has.
+    #[inline]
     #[tactic(auto, using(crate::proofs::Shapes::only_link))]
     pub fn link_name(&self, i: u32) -> &[u8]
         requires { HasBody self.now i }
         ensures name { IsSomeAnd (body_at self.now.bodies i) (λ body. body.link_name ≡ result.now) }
         ensures only { IsOnlyLink self.now.bodies i result.now }
+        ensures utf8 { IsUtf8 result.now }
     {
         self.body(i).link_name.as_str().as_bytes()
     }
 
-    /// The name of the joint that bears the body: `root_joint` for body 1. But for a root's joint that is fixed, no two bodies' joints have
-    /// one name.
+    /// The name of the joint that bears the body, in UTF-8: `root_joint` for body 1. But for a root's joint that is fixed, no two bodies'
+    /// joints have one name.
+    #[inline]
     pub fn joint_name(&self, i: u32) -> &[u8]
         requires { HasBody self.now i }
         ensures name { IsSomeAnd (body_at self.now.bodies i) (λ body. body.joint_name ≡ result.now) }
         ensures only { IsSomeAnd (body_at self.now.bodies i) (λ body. HasOwnJointName i body → IsOnlyJoint self.now.bodies i result.now) }
+        ensures utf8 { IsUtf8 result.now }
     {
         self.body(i).joint_name.as_str().as_bytes()
     }
 
     /// The brackets of the body's link.
+    #[inline]
     pub fn link_raw(&self, i: u32) -> &LinkRaw
         requires { HasBody self.now i }
         ensures { IsSomeAnd (body_at self.now.bodies i) (λ body. body.link_raw ≡ result.now) }
@@ -171,6 +194,7 @@ impl Robot {
     }
 
     /// The brackets of the body's joint, and the kind that it is taken as. Axis and factor are zero but for kinds that have an axis.
+    #[inline]
     pub fn joint_raw(&self, i: u32) -> &JointRaw
         requires { HasBody self.now i }
         ensures axis { IsAxisKept result.now }
@@ -180,16 +204,19 @@ impl Robot {
     }
 
     /// That the body's joint follows another, where it does: both have one entry, and the other follows none.
+    #[inline]
     #[tactic(auto, using(crate::proofs::Shapes::follows))]
     pub fn mimic_of(&self, i: u32) -> Option<Mimic>
         requires { HasBody self.now i }
         ensures mimic { IsSomeAnd (body_at self.now.bodies i) (λ body. body.mimic ≡ result) }
+        ensures at { result ≡ mimic_at self.now.bodies i }
         ensures follows { IsSomeAnd (body_at self.now.bodies i) (λ body. IfSome result (FollowsMaster self.now.bodies body)) }
     {
         self.body(i).mimic
     }
 
     /// Whether some joint follows another.
+    #[inline]
     pub fn has_mimic(&self) -> bool
         ensures { result ≡ has_mimic_in self.now.bodies }
     {
@@ -203,19 +230,22 @@ impl Robot {
         ensures entry { result.entry ≡ entry_count self.now.bodies }
         ensures few { result.full ≤ MAX_COLUMNS + 1 }
         ensures within { result.column ≤ result.full }
-        ensures few_entries { result.entry ≤ 7 * MAX_LINKS }
+        ensures few_entries { result.entry ≤ 2 * MAX_COLUMNS }
     {
         self.starts[self.bodies.len()]
     }
 
-    /// How many numbers a state has for the position: the entries of all joints that follow no other.
+    /// How many numbers a state has for the position: the entries of all joints that follow no other, at most two for each column.
+    #[inline]
     pub fn nq(&self) -> u32
-        ensures { result ≡ entry_count self.now.bodies }
+        ensures count { result ≡ entry_count self.now.bodies }
+        ensures few { result ≤ 2 * MAX_COLUMNS }
     {
         self.end().entry as u32
     }
 
     /// How many columns it has: those of all joints that follow no other.
+    #[inline]
     pub fn nv(&self) -> u32
         ensures count { result ≡ column_count self.now.bodies }
         ensures few { result ≤ MAX_COLUMNS }
@@ -224,6 +254,7 @@ impl Robot {
     }
 
     /// How many full columns it has: those of all joints.
+    #[inline]
     pub fn full(&self) -> u32
         ensures count { result ≡ full_count self.now.bodies }
         ensures few { result ≤ MAX_COLUMNS }
@@ -233,6 +264,7 @@ impl Robot {
     }
 
     /// The number of the body's first full column, or of the one that the next would have.
+    #[inline]
     pub fn first_full(&self, i: u32) -> u32
         requires { HasBody self.now i }
         ensures exact { result ≡ first_full self.now.bodies i }
@@ -255,6 +287,7 @@ impl Robot {
     }
 
     /// The number of the body's first column, of a mimic that of its master, or the one that the next would have.
+    #[inline]
     pub fn first_column(&self, i: u32) -> u32
         requires { HasBody self.now i }
         ensures exact { result ≡ first_column self.now.bodies i }
@@ -264,6 +297,7 @@ impl Robot {
     }
 
     /// The place from 0 of the body's first entry in a state, of a mimic that of its master, or the one that the next would have.
+    #[inline]
     pub fn first_q(&self, i: u32) -> usize
         requires { HasBody self.now i }
         ensures exact { result ≡ first_entry self.now.bodies i }
@@ -273,6 +307,7 @@ impl Robot {
     }
 
     /// The body of the joint of a column.
+    #[inline]
     pub fn column_body(&self, c: u32) -> u32
         requires { HasColumn self.now c }
         ensures exact { result ≡ body_of_column self.now.bodies c }
@@ -284,6 +319,7 @@ impl Robot {
 
     /// The next column upward, or 0: the one before it at the same joint, else the last one of the nearest body above that has columns. In
     /// a robot with a mimic it is the one before.
+    #[inline]
     pub fn up(&self, c: u32) -> u32
         requires { HasColumn self.now c }
         ensures exact { result ≡ up_of self.now.bodies c }
@@ -293,6 +329,7 @@ impl Robot {
     }
 
     /// The next columns upward, from column 1 on.
+    #[inline]
     pub fn ups(&self) -> &[u32]
         ensures exact { AreUps self.now.bodies result.now }
         ensures above { EachIndex result.now (λ k. slice_index result.now k ≤ k) }

@@ -1,15 +1,21 @@
+ghost use Rattle.rb_tree.specs.State.{Fits};
+
 use super::*;
-use rb_joint::AnyJoint;
+use rb_num::S;
 use rb_tags::read_tags;
 use rb_urdf::read_urdf;
 use std::alloc::Global;
 use std::test::*;
 
-// The robot of a file that both readers take, or its fault.
-fn robot_of(alloc: Global, text: &str) -> Option<Result<Robot, TreeFault>> {
+// The robot of a file that both readers take, with a root of this kind, or its fault.
+fn robot_on(alloc: Global, text: &str, root: Option<RootKind>) -> Option<Result<Robot, TreeFault>> {
     let tags = read_tags(alloc, text.as_bytes()).ok()?;
     let urdf = read_urdf(alloc, &tags).ok()?;
-    Some(Robot::build(alloc, &urdf))
+    Some(Robot::build(alloc, &urdf, root))
+}
+
+fn robot_of(alloc: Global, text: &str) -> Option<Result<Robot, TreeFault>> {
+    robot_on(alloc, text, None)
 }
 
 // Whether the parents of the bodies are these, from body 1 on.
@@ -363,4 +369,140 @@ fn constants_are_refused(rt: HostRuntime) -> Result<(), Fail> {
         }
     }
     Ok(())
+}
+
+// A box, and an arm whose joint turns without end.
+const BOX: &str =
+    "<robot name='box'><link name='box'><inertial><mass value='1'/><inertia ixx='1' iyy='1' izz='1'/></inertial></link></robot>";
+
+const SPINNING: &str =
+    "<robot name='arm'><link name='base'/><link name='rod'><inertial><origin xyz='0 0 -1'/><mass value='1'/></inertial></link><joint name='hinge' type='continuous'><parent link='base'/><child link='rod'/><axis xyz='0 1 0'/></joint></robot>";
+
+// Whether the entries of the state are these whole numbers, and it has so many columns, at rest.
+fn is_neutral(robot: &Robot, state: &State, entries: &[i128], columns: u32) -> bool
+    requires { Fits robot.now state.now }
+{
+    let mut place = 0;
+    for entry in entries {
+        let end = *entry;
+        if robot.nq() as usize <= place
+            || state.q(place).lo() != end
+            || state.q(place).hi() != end
+        {
+            return false;
+        }
+        place += 1;
+    }
+    for column in 0..robot.nv() as usize {
+        if state.v(column) != Iv::ZERO
+            || state.a(column) != Iv::ZERO
+            || state.tau(column) != Iv::ZERO
+        {
+            return false;
+        }
+    }
+    robot.nq() as usize == place && robot.nv() == columns
+}
+
+// Whether the neutral state of the file's robot with such a root has these entries and so many columns.
+fn has_neutral(
+    alloc: Global,
+    text: &str,
+    root: Option<RootKind>,
+    entries: &[i128],
+    columns: u32,
+) -> Option<bool> {
+    let robot = robot_on(alloc, text, root)?.ok()?;
+    let state = State::new(alloc, &robot).ok()?;
+    Some(is_neutral(&robot, &state, entries, columns))
+}
+
+#[test]
+fn neutral_states(rt: HostRuntime) {
+    let alloc = rt.alloc();
+    assert_eq!(rt; has_neutral(alloc, BOX, None, &[], 0), Some(true));
+    let level = Some(RootKind::Planar);
+    assert_eq!(rt;
+        has_neutral(alloc, BOX, level, &[0, 0, S, 0], 3),
+        Some(true)
+    );
+    let free = Some(RootKind::Floating);
+    assert_eq!(rt;
+        has_neutral(alloc, BOX, free, &[0, 0, 0, 0, 0, 0, S], 6),
+        Some(true)
+    );
+    assert_eq!(rt; has_neutral(alloc, SPINNING, None, &[S, 0], 1), Some(true));
+    assert_eq!(rt;
+        has_neutral(alloc, TREE, None, &[0, 0, 0, 0], 4),
+        Some(true)
+    );
+    assert_eq!(rt;
+        has_neutral(alloc, SPINNING, level, &[0, 0, S, 0, S, 0], 4),
+        Some(true)
+    );
+}
+
+#[test]
+fn a_floating_box(rt: HostRuntime) -> Result<(), Fail> {
+    let built = robot_on(rt.alloc(), BOX, Some(RootKind::Floating)).ok_or("the box is read")?;
+    let free = built.ok().ok_or("the box is built")?;
+    assert!(rt; has_names(&free, &[("box", "root_joint")]));
+    assert!(rt; has_owners(&free, &[1, 1, 1, 1, 1, 1]));
+    assert!(rt; free.ups() == [0, 1, 2, 3, 4, 5].as_slice());
+    assert!(rt; matches!(free.joint(1), AnyJoint::Free(_)));
+    assert_eq!(rt; free.joint_raw(1).kind, UrdfKind::Floating);
+    Ok(())
+}
+
+#[test]
+fn states_keep_what_is_set(rt: HostRuntime) -> Result<(), Fail> {
+    let built = robot_on(rt.alloc(), BOX, Some(RootKind::Planar)).ok_or("the box is read")?;
+    let robot = built.ok().ok_or("the box is built")?;
+    let mut state = State::new(rt.alloc(), &robot)?;
+    assert_eq!(rt; state.gravity().x(), Iv::ZERO);
+    assert_eq!(rt; state.gravity().y(), Iv::ZERO);
+    assert_eq!(rt; state.gravity().z().lo(), -9_810_000_000_000);
+    assert_eq!(rt; state.gravity().z().hi(), -9_810_000_000_000);
+    if robot.nq() == 4 && robot.nv() == 3 {
+        state.set_q(3, Iv::ONE);
+        state.set_v(2, Iv::ONE);
+        state.set_a(1, Iv::ONE);
+        state.set_tau(0, Iv::ONE);
+        state.set_gravity(Vec3::new(Iv::ONE, Iv::ZERO, Iv::ZERO));
+        assert_eq!(rt; state.q(3), Iv::ONE);
+        assert_eq!(rt; state.v(2), Iv::ONE);
+        assert_eq!(rt; state.a(1), Iv::ONE);
+        assert_eq!(rt; state.tau(0), Iv::ONE);
+        assert_eq!(rt; state.q(0), Iv::ZERO);
+        state.set_neutral(&robot);
+        assert!(rt; is_neutral(&robot, &state, &[0, 0, S, 0], 3));
+        assert_eq!(rt; state.gravity().x(), Iv::ONE);
+    }
+    Ok(())
+}
+
+// A joint of each kind, and the suffixes of its entries and of its columns.
+const SUFFIXES: [(UrdfKind, &[&str], &[&str]); 6] = [
+    (UrdfKind::Fixed, &[], &[]),
+    (UrdfKind::Revolute, &[""], &[""]),
+    (UrdfKind::Prismatic, &[""], &[""]),
+    (UrdfKind::Continuous, &[".cos", ".sin"], &[""]),
+    (
+        UrdfKind::Planar,
+        &[".x", ".y", ".cos", ".sin"],
+        &[".vx", ".vy", ".wz"],
+    ),
+    (
+        UrdfKind::Floating,
+        &[".x", ".y", ".z", ".qx", ".qy", ".qz", ".qw"],
+        &[".vx", ".vy", ".vz", ".wx", ".wy", ".wz"],
+    ),
+];
+
+#[test]
+fn names_of_entries_and_columns(rt: HostRuntime) {
+    for (kind, entries, columns) in SUFFIXES.iter() {
+        assert!(rt; entry_suffixes(*kind) == *entries);
+        assert!(rt; column_suffixes(*kind) == *columns);
+    }
 }

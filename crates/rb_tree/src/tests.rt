@@ -1,8 +1,10 @@
 //! Orders and refusals over file texts, with places counted by hand.
 use crate::faults::{TreeFault, TreeKind, WhichFile};
 use crate::order::{Stem, order_of};
+use crate::parts::{root_joint, root_kind};
 use crate::robot::{Body, Mimic, Robot};
-use rb_tags::read_tags;
+use crate::state::State;
+use rb_tags::{RootKind, read_tags};
 use rb_urdf::read_urdf;
 use std::alloc::{AllocError, Global};
 use std::test::Fail;
@@ -23,11 +25,20 @@ fn borne(link: u32, joint: u32, parent: u32) -> Stem {
     }
 }
 
-// What the bodies of a file's robot are, or why not; nothing if it holds no robot.
-fn ordered(alloc: Global, text: &[u8]) -> Option<Result<Vec<Stem>, TreeFault>> {
+// What the bodies of a file's robot with a root of this kind are, or why not; nothing if it holds no robot.
+fn ordered_on(
+    alloc: Global,
+    text: &[u8],
+    root: Option<RootKind>,
+) -> Option<Result<Vec<Stem>, TreeFault>> {
     let tags = read_tags(alloc, text).ok()?;
     let robot = read_urdf(alloc, &tags).ok()?;
-    Some(order_of(alloc, &robot))
+    let root = root_joint(alloc, root_kind(root), "root_joint", robot.place()).ok()?;
+    Some(order_of(alloc, &robot, &root))
+}
+
+fn ordered(alloc: Global, text: &[u8]) -> Option<Result<Vec<Stem>, TreeFault>> {
+    ordered_on(alloc, text, None)
 }
 
 fn has_order(alloc: Global, text: &[u8], stems: &[Stem]) -> bool {
@@ -38,13 +49,23 @@ fn ends_with(alloc: Global, text: &[u8], count: usize, last: Stem) -> bool {
     matches!(ordered(alloc, text), Some(Ok(found)) if found.len() == count && found.last() == Some(&last))
 }
 
-fn has_fault(alloc: Global, text: &[u8], kind: TreeKind, at: u64) -> bool {
+fn has_fault_on(
+    alloc: Global,
+    text: &[u8],
+    root: Option<RootKind>,
+    kind: TreeKind,
+    at: u64,
+) -> bool {
     let fault = TreeFault {
         kind,
         file: WhichFile::Urdf,
         at,
     };
-    matches!(ordered(alloc, text), Some(Err(found)) if found == fault)
+    matches!(ordered_on(alloc, text, root), Some(Err(found)) if found == fault)
+}
+
+fn has_fault(alloc: Global, text: &[u8], kind: TreeKind, at: u64) -> bool {
+    has_fault_on(alloc, text, None, kind, at)
 }
 
 #[test]
@@ -106,11 +127,87 @@ fn cycles_and_second_parents_are_refused_at_their_places(rt: HostRuntime) {
 }
 
 #[test]
-fn joints_that_are_not_built_are_refused_first(rt: HostRuntime) {
+fn joints_that_follow_others_are_refused_first(rt: HostRuntime) {
     let alloc = rt.alloc();
-    let wheel =
-        br#"<robot name="r"><link name="a"/><link name="b"/><link name="c"/><joint name="j" type="fixed"><parent link="a"/><child link="b"/></joint><joint name="k" type="continuous"><parent link="a"/><child link="b"/></joint></robot>"#;
-    assert!(rt; has_fault(alloc, wheel, TreeKind::Unbuilt, 136));
+    let pair =
+        br#"<robot name="r"><link name="a"/><link name="b"/><link name="c"/><joint name="j" type="revolute"><parent link="a"/><child link="b"/></joint><joint name="k" type="revolute"><parent link="a"/><child link="b"/><mimic joint="j"/></joint></robot>"#;
+    assert!(rt; has_fault(alloc, pair, TreeKind::Unbuilt, 139));
+}
+
+#[test]
+fn a_root_that_moves_has_a_name_of_its_own(rt: HostRuntime) {
+    let alloc = rt.alloc();
+    let named =
+        br#"<robot name="r"><link name="a"/><link name="b"/><joint name="root_joint" type="fixed"><parent link="a"/><child link="b"/></joint></robot>"#;
+    assert!(rt;
+        has_fault_on(
+            alloc,
+            named,
+            Some(RootKind::Floating),
+            TreeKind::RootName,
+            48
+        )
+    );
+    assert!(rt; has_fault_on(alloc, named, Some(RootKind::Planar), TreeKind::RootName, 48));
+    assert!(rt; has_order(alloc, named, &[root(0), borne(1, 0, 1)]));
+}
+
+#[test]
+fn no_two_entries_have_one_name(rt: HostRuntime) {
+    let alloc = rt.alloc();
+    let twice =
+        br#"<robot name="r"><link name="a"/><link name="b"/><link name="c"/><joint name="w" type="continuous"><parent link="a"/><child link="b"/></joint><joint name="w.cos" type="revolute"><parent link="a"/><child link="c"/></joint></robot>"#;
+    assert!(rt; has_fault(alloc, twice, TreeKind::NameTwice, 141));
+    // the joint of the later body comes first in the file
+    let later =
+        br#"<robot name="r"><link name="a"/><link name="b"/><link name="c"/><joint name="w.cos" type="prismatic"><parent link="b"/><child link="c"/></joint><joint name="w" type="continuous"><parent link="a"/><child link="b"/></joint></robot>"#;
+    assert!(rt; has_fault(alloc, later, TreeKind::NameTwice, 64));
+    let apart =
+        br#"<robot name="r"><link name="a"/><link name="b"/><link name="c"/><joint name="w" type="continuous"><parent link="a"/><child link="b"/></joint><joint name="w.sinus" type="revolute"><parent link="a"/><child link="c"/></joint></robot>"#;
+    assert!(rt; has_order(alloc, apart, &[root(0), borne(1, 0, 1), borne(2, 1, 1)]));
+}
+
+#[test]
+fn no_two_columns_have_one_name(rt: HostRuntime) {
+    let alloc = rt.alloc();
+    let along_x =
+        br#"<robot name="r"><link name="a"/><link name="b"/><joint name="root_joint.vx" type="prismatic"><parent link="a"/><child link="b"/></joint></robot>"#;
+    assert!(rt;
+        has_fault_on(
+            alloc,
+            along_x,
+            Some(RootKind::Floating),
+            TreeKind::NameTwice,
+            48
+        )
+    );
+    assert!(rt;
+        has_fault_on(
+            alloc,
+            along_x,
+            Some(RootKind::Planar),
+            TreeKind::NameTwice,
+            48
+        )
+    );
+    assert!(rt; has_order(alloc, along_x, &[root(0), borne(1, 0, 1)]));
+    let cosine =
+        br#"<robot name="r"><link name="a"/><link name="b"/><joint name="root_joint.cos" type="prismatic"><parent link="a"/><child link="b"/></joint></robot>"#;
+    assert!(rt;
+        has_fault_on(
+            alloc,
+            cosine,
+            Some(RootKind::Planar),
+            TreeKind::NameTwice,
+            48
+        )
+    );
+    assert!(rt;
+        matches!(
+            ordered_on(alloc, cosine, Some(RootKind::Floating)),
+            Some(Ok(_))
+        )
+    );
 }
 
 // A text, and the places of the elements that were asked for.
@@ -193,6 +290,42 @@ fn at_most_64_columns(rt: HostRuntime) -> Result<(), Fail> {
     Ok(())
 }
 
+#[test]
+fn the_root_has_columns_too(rt: HostRuntime) -> Result<(), Fail> {
+    let alloc = rt.alloc();
+    let more = star_of(alloc, "prismatic", 60)?;
+    let at = more.places.last().copied().unwrap_or(0);
+    assert!(rt;
+        has_fault_on(
+            alloc,
+            more.text.as_bytes(),
+            Some(RootKind::Floating),
+            TreeKind::TooManyColumns,
+            at
+        )
+    );
+    let most = star_of(alloc, "prismatic", 59)?;
+    assert!(rt;
+        matches!(
+            ordered_on(alloc, most.text.as_bytes(), Some(RootKind::Floating)),
+            Some(Ok(_))
+        )
+    );
+    Ok(())
+}
+
+#[test]
+fn faults_as_texts(rt: HostRuntime) -> Result<(), Fail> {
+    let fault = TreeFault {
+        kind: TreeKind::TwoRoots,
+        file: WhichFile::Urdf,
+        at: 38,
+    };
+    let text = format!(in rt.alloc(); "{fault}")?;
+    assert_eq!(rt; text.as_str(), "urdf: TwoRoots at 38");
+    Ok(())
+}
+
 fn is_shared<T: Send + Sync>() {}
 
 #[test]
@@ -200,6 +333,7 @@ fn types_are_shared(_rt: HostRuntime) {
     is_shared::<Body>();
     is_shared::<Mimic>();
     is_shared::<Robot>();
+    is_shared::<State>();
     is_shared::<TreeFault>();
     is_shared::<TreeKind>();
     is_shared::<WhichFile>();

@@ -1,5 +1,5 @@
-use Rattle.rb_tree.proofs.Root.{root_still}
+use Rattle.rb_tree.proofs.Root.{root_stands}
 use Rattle.rb_tree.proofs.laws.root_law.Goals as goal
 
 pub returns : goal.returns
-returns c = root_still
+returns c = root_stands

@@ -6,6 +6,6 @@ use Rattle.rb_tree.proofs.sizes.check_columns.Given as goal
 
 abbrev pub invariant-loop-stem : goal.invariant-loop-stem
 invariant-loop-stem l = record {
-  columns_is : sum_by (stem_columns l.joints) (take l.stem-index l.stems) ≡ l.columns;
+  columns_is : sum_by (stem_columns l.root l.joints) (take l.stem-index l.stems) ≡ l.columns;
   few : l.columns ≤ MAX_COLUMNS;
 }

@@ -1,15 +1,19 @@
-use Rattle.std.proofs.Common.{◌∙◌}
-use Rattle.std.specs.List.{AllZip}
-use Rattle.rb_tree.specs.Build.{IsBodyOf}
-use Rattle.rb_tree.proofs.MakingLaws.{are_bodies, built}
+use Rattle.std.proofs.Common.{◌≡◌, ◌⊎◌, IfOk, IfErr, sym, ◌∙◌, ap, subst}
+use Rattle.rb_urdf.specs.declared.robot.UrdfJoint.{UrdfJoint}
+use Rattle.rb_tree.specs.Faults.{no_memory}
+use Rattle.rb_tree.specs.Parts.{root_of}
+use Rattle.rb_tree.specs.Build.{IsBuilt, HasFault}
+use Rattle.rb_tree.proofs.MakingLaws.{root_joint_is}
 use Rattle.rb_tree.proofs.robot.Robot.build.Goals as goal
-
-pub new-requires : goal.new-requires
-new-requires c =
-    let made : AllZip (IsBodyOf c.args.urdf.now) c.in_ok-order.order.items c.in_ok-bodies.bodies.items = rw (← c.as_slice.ensures.value) c.in_ok-bodies.ensures.ok in
-    are_bodies c.args.urdf.now c.in_ok-order.order.items c.in_ok-bodies.bodies.items c.in_ok-order.ensures.ok made c.in_ok-order.ensures.kept c.in_ok-order.ensures.few
 
 pub returns-clause-ok : goal.returns-clause-ok
 returns-clause-ok c =
-    let made : AllZip (IsBodyOf c.args.urdf.now) c.in_ok-order.order.items c.in_ok-bodies.bodies.items = rw (← c.as_slice.ensures.value) c.in_ok-bodies.ensures.ok in
-    rw c.in_ok-new.ensures (built c.args.urdf.now c.in_ok-order.order.items c.in_ok-bodies.bodies.items c.in_ok-name.name c.in_ok-order.ensures.ok c.in_ok-order.ensures.few c.in_ok-order.ensures.built made (c.in_ok-name.ensures ∙ c.name.ensures.same))
+    let is : c.in_ok-root.root ≡ root_of c.args.urdf.now c.args.root = root_joint_is c.in_ok-root.root c.args.urdf.now c.args.root _ _ _ c.in_ok-root.ensures c.root_kind.ensures c.place.ensures in
+    let P : UrdfJoint → Type 0 = λ root. IfOk c.borne.result (IsBuilt c.args.urdf.now root) in
+    subst P is c.borne.ensures.ok
+
+pub returns-clause-err : goal.returns-clause-err
+returns-clause-err c =
+    let is : c.in_ok-root.root ≡ root_of c.args.urdf.now c.args.root = root_joint_is c.in_ok-root.root c.args.urdf.now c.args.root _ _ _ c.in_ok-root.ensures c.root_kind.ensures c.place.ensures in
+    let P : UrdfJoint → Type 0 = λ root. IfErr c.borne.result (λ fault. (fault ≡ no_memory) ⊎ HasFault c.args.urdf.now root fault) in
+    subst P is c.borne.ensures.err

@@ -2,7 +2,7 @@ use Rattle.std.proofs.Common.{◌+◌, ap, ◌∙◌, length, arith}
 use Rattle.rb_tree.specs.declared.columns.Start.{Start}
 use Rattle.rb_tree.specs.Robot.{Tree}
 use Rattle.rb_tree.specs.Columns.{full_count, column_count, entry_count}
-use Rattle.rb_tree.proofs.ColumnLaws.{end_is, full_end, column_end, entry_end, entry_small}
+use Rattle.rb_tree.proofs.ColumnLaws.{end_is, full_end, column_end, entry_end, entries_by_columns}
 use Rattle.rb_tree.proofs.robot.Robot.end.Goals as goal
 
 pub returns-clause-full : goal.returns-clause-full
@@ -39,4 +39,4 @@ pub returns-clause-few_entries : goal.returns-clause-few_entries
 returns-clause-few_entries c =
     let bodies = c.self.inside.bodies.items in
     let is = end_is bodies c.self.inside.starts.items c.len.result _ _ c.self.invariant.starts_are (omega arith) c.index.ensures in
-    omega (arith, ap (λ (s : Start). s.entry) is, entry_small bodies (length bodies), c.self.invariant.bodies_kept.few)
+    omega (arith, ap (λ (s : Start). s.entry) is, entry_end bodies, entries_by_columns bodies, c.self.invariant.bodies_kept.few_columns)

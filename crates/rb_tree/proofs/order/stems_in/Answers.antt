@@ -3,8 +3,8 @@ use Rattle.std.proofs.lemmas.Result.{err_from_is_err_and}
 use Rattle.rb_tree.specs.declared.faults.TreeFault.{TreeFault}
 use Rattle.rb_tree.specs.declared.faults.TreeKind.TheVariants.{Cycle}
 use Rattle.rb_tree.specs.declared.faults.WhichFile.TheVariants.{Urdf}
-use Rattle.rb_tree.proofs.Whole.{root_fault, forest_of, order_of_slices, cycle_of_slices, columns_of_slices}
-use Rattle.rb_tree.proofs.order.order_of.Goals as goal
+use Rattle.rb_tree.proofs.Whole.{root_fault, forest_of, order_of_slices, cycle_of_slices}
+use Rattle.rb_tree.proofs.order.stems_in.Goals as goal
 
 pub returns-in_err-root-clause-err : goal.returns-in_err-root-clause-err
 returns-in_err-root-clause-err c =
@@ -26,19 +26,13 @@ returns-in-Some-clause-err c =
     c.as_slice.ensures.value c.in_ok-stems.ensures.grown c.in_ok-root.ensures.ok forest c.in_ok-stems.ensures.closed c.in-Some.link link c.fault.result c.in-Some.ensures
     c.index-links-link.is says)
 
-pub returns-in_err-check_columns-clause-err : goal.returns-in_err-check_columns-clause-err
-returns-in_err-check_columns-clause-err c =
-    let el = c.as_slice-links.ensures ∙ c.links.ensures in
-    let ej = c.as_slice-joints.ensures ∙ c.joints.ensures.same in
-    let forest = forest_of c.args.robot.now c.as_slice-links.result.now c.as_slice-joints.result.now el ej c.in_ok-check_built.ensures.ok c.in_ok-check_links.ensures.ok
-    c.in_ok-check_parents.ensures.ok in
-    let p = err_from_is_err_and c.from_residual-in_err-check_columns.result c.from_residual-in_err-check_columns.ensures.1 in
-    rw (p.1, p.2) (inr (columns_of_slices c.args.robot.now c.as_slice-links.result.now c.as_slice-joints.result.now el ej c.in_ok-root.root c.in_ok-stems.stems.items
-    c.as_slice.result.now c.as_slice.ensures.value c.in_ok-stems.ensures.grown c.in_ok-root.ensures.ok forest c.in_ok-check_parents.ensures.ok c.in_default.ensures
-    c.as_slice-2.result.now c.as_slice-2.ensures.value c.in_err-check_columns.field-0.0 c.in_err-check_columns.ensures.err))
-
 pub returns-clause-ok : goal.returns-clause-ok
 returns-clause-ok c =
     order_of_slices c.args.robot.now c.as_slice-links.result.now c.as_slice-joints.result.now (c.as_slice-links.ensures ∙ c.links.ensures)
     (c.as_slice-joints.ensures ∙ c.joints.ensures.same) c.in_ok-root.root c.in_ok-stems.stems.items c.as_slice.result.now
     c.as_slice.ensures.value c.in_ok-stems.ensures.grown c.in_ok-root.ensures.ok c.in_ok-check_parents.ensures.ok c.in_default.ensures
+
+pub returns-clause-forest : goal.returns-clause-forest
+returns-clause-forest c =
+    forest_of c.args.robot.now c.as_slice-links.result.now c.as_slice-joints.result.now (c.as_slice-links.ensures ∙ c.links.ensures)
+    (c.as_slice-joints.ensures ∙ c.joints.ensures.same) c.in_ok-check_built.ensures.ok c.in_ok-check_links.ensures.ok c.in_ok-check_parents.ensures.ok

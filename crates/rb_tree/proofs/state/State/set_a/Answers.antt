@@ -1,0 +1,5 @@
+use Rattle.rb_tree.proofs.StateLaws.{with_a}
+use Rattle.rb_tree.proofs.state.State.set_a.Goals as goal
+
+pub invariant_of-self : goal.invariant_of-self
+invariant_of-self c = let s = c.self.inside in with_a s.q.items s.v.items s.a.items s.tau.items s.gravity c.self.invariant c.args.k c.args.iv c.lo-bounds.ensures.bounds.ordered

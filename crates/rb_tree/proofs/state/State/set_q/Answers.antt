@@ -1,0 +1,5 @@
+use Rattle.rb_tree.proofs.StateLaws.{with_q}
+use Rattle.rb_tree.proofs.state.State.set_q.Goals as goal
+
+pub invariant_of-self : goal.invariant_of-self
+invariant_of-self c = let s = c.self.inside in with_q s.q.items s.v.items s.a.items s.tau.items s.gravity c.self.invariant c.args.k c.args.iv c.lo-bounds.ensures.bounds.ordered

@@ -1,0 +1,215 @@
+ghost use Rattle.std.specs.Prelude.{◌≡◌, ◌<◌, ◌≤◌, ◌+◌, ◌++◌, List, length, IfOk, slice_set, take, drop, replicate};
+ghost use Rattle.std.specs.List.{All};
+ghost use Rattle.rb_num.specs.Interval.{Interval, zero_interval};
+ghost use Rattle.rb_flat.specs.Choice.{IsOrdered};
+ghost use Rattle.rb_joint.specs.Any.{kind_of};
+ghost use Rattle.rb_flat.specs.Joint.{entry_count as joint_entries};
+ghost use Rattle.rb_tree.specs.Columns.{entry_count};
+ghost use Rattle.rb_tree.specs.State.{Row, IsRow, Fits, at_place, neutral_entries, neutral_position, neutral_under, standard_gravity};
+
+use crate::columns::own_entries;
+use crate::robot::{Body, Robot};
+use rb_joint::AnyJoint;
+use rb_num::Iv;
+use rb_spatial::Vec3;
+use std::alloc::{AllocError, Global};
+use std::marker::Model;
+
+/// The numbers of one row: the entries `q` of the position, the speeds `v`, the accelerations `a` and the torques `tau`, each by place from 0, and the
+/// gravity. Entries are in metres, in radians, or cosines, sines and parts of a unit quaternion; the others are in units of metres, radians, newtons and
+/// seconds. Column `c` has the place `c - 1`.
+#[derive(Debug, Drop)]
+pub struct State {
+    q: Vec<Iv>,
+    v: Vec<Iv>,
+    a: Vec<Iv>,
+    tau: Vec<Iv>,
+    gravity: Vec3,
+}
+
+impl Model for State {
+    ghost use Rattle.rb_tree.specs.State.{Row, IsRow};
+
+    ghost Value = { Row };
+
+    ghost view = { λ s. record { q = s.q.items; v = s.v.items; a = s.a.items; tau = s.tau.items; gravity = s.gravity } };
+
+    ghost invariant = { λ s. IsRow s.q.items s.v.items s.a.items s.tau.items s.gravity };
+}
+
+/// Puts a joint into its neutral position.
+fn put_joint(q: &mut [Iv], joint: &AnyJoint)
+    requires { length q.old ≡ joint_entries (kind_of joint.now) }
+    ensures { q.new ≡ neutral_entries (kind_of joint.now) }
+{
+    q.fill(Iv::ZERO);
+    match joint {
+        AnyJoint::Fixed(_) | AnyJoint::Revolute(_) | AnyJoint::Prismatic(_) => {}
+        AnyJoint::Continuous(_) => q[0] = Iv::ONE,
+        AnyJoint::Planar(_) => q[2] = Iv::ONE,
+        AnyJoint::Free(_) => q[6] = Iv::ONE,
+    }
+}
+
+/// Puts the joint of each body, where it follows no other, into its neutral position.
+fn put_neutral(q: &mut [Iv], bodies: &[Body])
+    requires { length q.old ≡ entry_count bodies.now }
+    ensures { q.new ≡ neutral_position bodies.now }
+{
+    let mut at = 0;
+    for body in bodies {
+        let end = at + own_entries(body);
+        if body.mimic.is_none() {
+            put_joint(&mut q[at..end], &body.joint);
+        }
+        at = end;
+    }
+}
+
+fn put_zeros(numbers: &mut [Iv])
+    ensures { numbers.new ≡ replicate (length numbers.old) zero_interval }
+{
+    numbers.fill(Iv::ZERO);
+}
+
+/// So many zeros.
+fn zeros(alloc: Global, count: usize) -> Result<Vec<Iv>, AllocError>
+    ensures { IfOk result (λ zeros. zeros.items ≡ replicate count zero_interval) }
+{
+    let mut zeros = Vec::new(alloc);
+    zeros.resize(count, Iv::ZERO)?;
+    Ok(zeros)
+}
+
+/// The gravity of the earth.
+fn earth() -> Vec3
+    ensures { result ≡ standard_gravity }
+{
+    let down = Iv::new(-9_810_000_000_000, -9_810_000_000_000);
+    Vec3::new(Iv::ZERO, Iv::ZERO, down)
+}
+
+impl State {
+    /// The neutral state of the robot, under the gravity of (0, 0, -9.81) m/s².
+    pub fn new(alloc: Global, robot: &Robot) -> Result<State, AllocError>
+        ensures exact { IfOk result (λ state. state ≡ neutral_under standard_gravity robot.now) }
+        ensures fits { IfOk result (Fits robot.now) }
+    {
+        let columns = robot.nv() as usize;
+        let mut state = State {
+            q: zeros(alloc, robot.nq() as usize)?,
+            v: zeros(alloc, columns)?,
+            a: zeros(alloc, columns)?,
+            tau: zeros(alloc, columns)?,
+            gravity: earth(),
+        };
+        state.set_neutral(robot);
+        Ok(state)
+    }
+
+    /// Puts the neutral position, and speeds, accelerations and torques of zero. The gravity stays.
+    pub fn set_neutral(&mut self, robot: &Robot)
+        requires { Fits robot.now self.old }
+        ensures exact { self.new ≡ neutral_under self.old.gravity robot.now }
+        ensures fits { Fits robot.now self.new }
+    {
+        put_neutral(self.q.as_mut_slice(), robot.body_list());
+        put_zeros(self.v.as_mut_slice());
+        put_zeros(self.a.as_mut_slice());
+        put_zeros(self.tau.as_mut_slice());
+    }
+
+    /// The entry of the position at this place.
+    #[inline]
+    pub fn q(&self, k: usize) -> Iv
+        requires { k < length self.now.q }
+        ensures exact { result ≡ at_place self.now.q k }
+        ensures kept { IsRow self.now.q self.now.v self.now.a self.now.tau self.now.gravity }
+    {
+        self.q[k]
+    }
+
+    /// The speed of column `k + 1`.
+    #[inline]
+    pub fn v(&self, k: usize) -> Iv
+        requires { k < length self.now.v }
+        ensures { result ≡ at_place self.now.v k }
+    {
+        self.v[k]
+    }
+
+    /// The acceleration of column `k + 1`.
+    #[inline]
+    pub fn a(&self, k: usize) -> Iv
+        requires { k < length self.now.a }
+        ensures { result ≡ at_place self.now.a k }
+    {
+        self.a[k]
+    }
+
+    /// The torque of column `k + 1`.
+    #[inline]
+    pub fn tau(&self, k: usize) -> Iv
+        requires { k < length self.now.tau }
+        ensures { result ≡ at_place self.now.tau k }
+    {
+        self.tau[k]
+    }
+
+    /// The gravity, in m/s².
+    #[inline]
+    pub fn gravity(&self) -> &Vec3
+        ensures exact { result.now ≡ self.now.gravity }
+        ensures kept { IsRow self.now.q self.now.v self.now.a self.now.tau self.now.gravity }
+    {
+        &self.gravity
+    }
+
+    /// Sets the entry of the position at this place.
+    #[inline]
+    pub fn set_q(&mut self, k: usize, iv: Iv)
+        requires { k < length self.old.q }
+        ensures { self.new ≡ record self.old { q = slice_set self.old.q k iv } }
+    {
+        let _bounds = iv.lo();
+        self.q[k] = iv;
+    }
+
+    /// Sets the speed of column `k + 1`.
+    #[inline]
+    pub fn set_v(&mut self, k: usize, iv: Iv)
+        requires { k < length self.old.v }
+        ensures { self.new ≡ record self.old { v = slice_set self.old.v k iv } }
+    {
+        let _bounds = iv.lo();
+        self.v[k] = iv;
+    }
+
+    /// Sets the acceleration of column `k + 1`.
+    #[inline]
+    pub fn set_a(&mut self, k: usize, iv: Iv)
+        requires { k < length self.old.a }
+        ensures { self.new ≡ record self.old { a = slice_set self.old.a k iv } }
+    {
+        let _bounds = iv.lo();
+        self.a[k] = iv;
+    }
+
+    /// Sets the torque of column `k + 1`.
+    #[inline]
+    pub fn set_tau(&mut self, k: usize, iv: Iv)
+        requires { k < length self.old.tau }
+        ensures { self.new ≡ record self.old { tau = slice_set self.old.tau k iv } }
+    {
+        let _bounds = iv.lo();
+        self.tau[k] = iv;
+    }
+
+    /// Sets the gravity, in m/s².
+    pub fn set_gravity(&mut self, g: Vec3)
+        ensures { self.new ≡ record self.old { gravity = g } }
+    {
+        let _bounds = (g.x().lo(), g.y().lo(), g.z().lo());
+        self.gravity = g;
+    }
+}
