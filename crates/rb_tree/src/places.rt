@@ -38,7 +38,15 @@ fn own_entries(robot: &Robot, state: &State, i: u32) -> [Iv; 7]
 fn one_entry(x: Iv) -> [Iv; 7]
     ensures { result ≡ padded 7 (x ∷ []) }
 {
-    [x, Iv::ZERO, Iv::ZERO, Iv::ZERO, Iv::ZERO, Iv::ZERO, Iv::ZERO]
+    [
+        x,
+        Iv::ZERO,
+        Iv::ZERO,
+        Iv::ZERO,
+        Iv::ZERO,
+        Iv::ZERO,
+        Iv::ZERO,
+    ]
 }
 
 // The entries of the joint of a body.
@@ -53,7 +61,10 @@ fn entries_at(robot: &Robot, state: &State, i: u32) -> Result<[Iv; 7], RowFault>
         Some(mimic) => {
             let leading = state.q(robot.first_q(i));
             let name = Name::one(NameKind::q, i);
-            let x = named(dot(&[(mimic.multiplier, leading), (mimic.offset, Iv::ONE)]), name)?;
+            let x = named(
+                dot(&[(mimic.multiplier, leading), (mimic.offset, Iv::ONE)]),
+                name,
+            )?;
             Ok(one_entry(x))
         }
     }
