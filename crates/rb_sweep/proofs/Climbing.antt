@@ -1,5 +1,5 @@
 -- Lists of names whose ranks ascend, body by body.
-use Rattle.std.proofs.Common.{◌≡◌, ℕ, zero, suc, ◌+◌, ◌-◌, ◌<◌, ◌≤◌, List, [], ◌∷◌, ◌++◌, flat_map, filter, map, Bool, true, false, cond, Result, Ok, Err, inl, inr, refl, ap, sym, ◌∙◌, subst, arith}
+use Rattle.std.proofs.Common.{◌≡◌, ℕ, zero, suc, ◌+◌, ◌-◌, ◌<◌, ◌≤◌, List, [], ◌∷◌, ◌++◌, flat_map, filter, map, length, Bool, true, false, cond, Result, Ok, Err, inl, inr, refl, ap, sym, ◌∙◌, subst, arith}
 use Rattle.std.proofs.lemmas.Bool.{cases_lt}
 use Rattle.rb_result.specs.Steps.{◌>>=◌}
 use Rattle.rb_result.proofs.Results.{grouped}
@@ -222,3 +222,37 @@ map_counting_same f g (suc k) lo h =
 pub map_upward_same : {A : Type 0} (f g : ℕ → A) (lo hi : ℕ) → ((i : ℕ) → lo ≤ i → i < hi → f i ≡ g i) → map f (upward lo hi) ≡ map g (upward lo hi)
 unfolding upward
 map_upward_same f g lo hi h = map_counting_same f g (hi - lo) lo (λ i low high. h i low (omega arith))
+
+-- ---- sweeps over numbers whose steps are the same there
+counting_up_below : (k lo i : ℕ) → Among i (counting_up lo k) → i < lo + k
+counting_up_below zero lo i h = absurd h
+counting_up_below (suc k) lo i (inl e) = omega arith
+counting_up_below (suc k) lo i (inr h) = let l : i < lo + 1 + k = counting_up_below k (lo + 1) i h in omega arith
+
+pub upward_same : {S E : Type 0} (step other : ℕ → S → Result S E) (lo hi : ℕ) → ((j : ℕ) (s : S) → lo ≤ j → j < hi → step j s ≡ other j s)
+    → (s : S) → sweep step (upward lo hi) s ≡ sweep other (upward lo hi) s
+unfolding upward
+upward_same step other lo hi h s =
+    sweep_same step other (counting_up lo (hi - lo))
+    (λ j s k.
+    let from : lo ≤ j = counting_up_from (hi - lo) lo j k in
+    let below : j < lo + (hi - lo) = counting_up_below (hi - lo) lo j k in
+    h j s from (omega arith)) s
+
+pub downward_same : {S E : Type 0} (step other : ℕ → S → Result S E) (lo hi : ℕ) → ((j : ℕ) (s : S) → lo ≤ j → j < hi → step j s ≡ other j s)
+    → (s : S) → sweep step (downward lo hi) s ≡ sweep other (downward lo hi) s
+unfolding downward
+downward_same step other lo hi h s =
+    sweep_same step other (counting_down lo (hi - lo))
+    (λ j s k.
+    let from : lo ≤ j = counting_down_from (hi - lo) lo j k in
+    let below : j < lo + (hi - lo) = counting_down_below (hi - lo) lo j k in
+    h j s from (omega arith)) s
+
+length-counting_up : (k lo : ℕ) → length (counting_up lo k) ≡ k
+length-counting_up zero lo = refl
+length-counting_up (suc k) lo = ap suc (length-counting_up k (lo + 1))
+
+pub length-upward : (lo hi : ℕ) → length (upward lo hi) ≡ hi - lo
+unfolding upward
+length-upward lo hi = length-counting_up (hi - lo) lo

@@ -1,11 +1,10 @@
 -- The columns of a robot fit its shape, and the parents of its bodies come first.
-use Rattle.std.proofs.Common.{◌≡◌, ◌⊎◌, inl, inr, ℕ, zero, suc, ◌+◌, ◌-◌, ◌<◌, ◌≤◌, List, length, take, Option, None, Some, refl, sym, ap, ◌∙◌, subst, arith}
+use Rattle.std.proofs.Common.{◌≡◌, inl, inr, ℕ, zero, suc, ◌+◌, ◌-◌, ◌<◌, ◌≤◌, List, length, take, Option, None, Some, refl, sym, ap, ◌∙◌, subst, arith}
 use Rattle.std.specs.List.{sum_by}
 use Rattle.std.specs.Option.{option_map_or}
 use Rattle.std.proofs.lemmas.Bool.{cases_lt}
 use Rattle.rb_flat.specs.Joint as Kinds
-use Rattle.rb_flat.specs.Shape as Flat
-use Rattle.rb_flat.specs.Shape.{ColumnsFit, ParentsComeFirst, OwnsColumn, MayFollow}
+use Rattle.rb_flat.specs.Shape.{ColumnsFit, ParentsComeFirst, OwnsColumn}
 use Rattle.rb_flat.proofs.VirtualWork.{one_column}
 use Rattle.rb_joint.specs.Any.{kind_of}
 use Rattle.rb_tree.specs.declared.robot.Body.{Body}
@@ -16,7 +15,7 @@ use Rattle.rb_tree.specs.Shape.{kind_at, master_of, master_at, shape_of}
 use Rattle.rb_tree.proofs.ColumnLaws.{sum_more}
 use Rattle.rb_tree.proofs.PlaceEncloses.{body_there}
 use Rattle.rb_tree.proofs.Shapes.{mimics_fit}
-use Rattle.rb_tree.proofs.Spans.{sum_rises, owner_there_at, column_within, column_within_all, sum_within}
+use Rattle.rb_tree.proofs.Spans.{sum_rises, owner_there_at, column_within, sum_within}
 
 -- ---- of a body by its number
 count_by : (m : Option Mimic) (count : ℕ) → master_of m ≡ None → unless_mimic m count ≡ count

@@ -1,13 +1,14 @@
 -- The entries of a joint, and where they stand in a row.
-use Rattle.std.proofs.Common.{◌≡◌, ℕ, zero, suc, ◌+◌, ◌-◌, ◌<◌, ◌≤◌, List, [], ◌∷◌, ◌++◌, length, set, take, replicate, Option, None, Some, refl, sym, ap, ◌∙◌, add-one, arith}
-use Rattle.std.specs.Option.{option_map_or}
+use Rattle.std.proofs.Common.{◌≡◌, ℕ, zero, suc, ◌+◌, ◌-◌, ◌<◌, ◌≤◌, List, [], ◌∷◌, ◌++◌, length, set, take, replicate, Option, None, Some, IfSome, subst, refl, sym, ap, ◌∙◌, add-one, arith}
+use Rattle.std.specs.Option.{option_map_or, IsSomeAnd}
 use Rattle.rb_num.specs.Interval.{Interval, zero_interval}
 use Rattle.rb_flat.specs.Choice.{items_from}
-use Rattle.rb_flat.specs.Joint.{entry_count}
+use Rattle.rb_flat.specs.Joint as Kinds
+use Rattle.rb_flat.specs.Joint.{Kind, entry_count, column_count}
 use Rattle.rb_joint.specs.Any.{kind_of}
 use Rattle.rb_tree.specs.declared.robot.Body.{Body}
 use Rattle.rb_tree.specs.declared.robot.Mimic.{Mimic}
-use Rattle.rb_tree.specs.Columns.{body_at, leader_at, entries_at, own_entries, unless_mimic, mimic_or}
+use Rattle.rb_tree.specs.Columns.{body_at, leader_at, entries_at, own_entries, columns_at, own_columns, start_behind, unless_mimic, mimic_or}
 use Rattle.rb_tree.specs.Numbers.{joint_at, mimic_at, no_joint}
 use Rattle.rb_tree.specs.Robot.{FollowsMaster}
 use Rattle.rb_tree.specs.Places.{padded}
@@ -73,3 +74,40 @@ leader_master bodies i mimic h = go (body_at bodies i) h
 pub entries_master : (bodies : List Body) (body : Body) (mimic : Mimic) → FollowsMaster bodies body mimic → entries_at bodies mimic.master ≡ 1
 entries_master bodies body mimic f =
     ap (λ (o : Option Body). option_map_or own_entries o 0) f.is ∙ ap (λ m. unless_mimic m (entry_count (kind_of f.master.joint))) f.leads ∙ f.master_entry
+
+-- ---- columns: as entries
+columns_lead : (o : Option Body) → option_map_or (λ (body : Body). body.mimic) o None ≡ None → option_map_or own_columns o 0 ≡ column_count (kind_of (option_map_or (λ (body : Body). body.joint) o no_joint))
+columns_lead None h = refl
+columns_lead (Some body) h = ap (λ m. unless_mimic m (column_count (kind_of body.joint))) h
+
+pub columns_own : (bodies : List Body) (i : ℕ) → mimic_at bodies i ≡ None → columns_at bodies (leader_at bodies i) ≡ column_count (kind_of (joint_at bodies i))
+columns_own bodies i h = ap (columns_at bodies) (leader_own bodies i h) ∙ columns_lead (body_at bodies i) h
+
+-- a joint with one entry has one column
+pub entry_column : (k : Kind) → entry_count k ≡ 1 → column_count k ≡ 1
+entry_column Kinds.Fixed h = absurd (omega arith)
+entry_column Kinds.Revolute h = refl
+entry_column Kinds.Continuous h = refl
+entry_column Kinds.Prismatic h = refl
+entry_column Kinds.Planar h = absurd (omega arith)
+entry_column Kinds.Free h = absurd (omega arith)
+
+pub columns_master : (bodies : List Body) (body : Body) (mimic : Mimic) → FollowsMaster bodies body mimic → columns_at bodies mimic.master ≡ 1
+columns_master bodies body mimic f =
+    ap (λ (o : Option Body). option_map_or own_columns o 0) f.is ∙ ap (λ m. unless_mimic m (column_count (kind_of f.master.joint))) f.leads ∙ entry_column (kind_of f.master.joint) f.master_entry
+
+-- columns are numbered from 1
+pub column_from : (bodies : List Body) (k : ℕ) → 1 ≤ (start_behind bodies k).column
+unfolding start_behind
+column_from bodies k = omega arith
+
+found_in : (o : Option Body) (P : Body → Type 0) → IsSomeAnd o P → (body : Body) × P body
+found_in None P h = absurd h
+found_in (Some body) P h = (body, h)
+
+pub columns_followed : (bodies : List Body) (i : ℕ) (mimic : Mimic) (r : Option Mimic) → IsSomeAnd (body_at bodies i) (λ body. IfSome r (FollowsMaster bodies body))
+    → r ≡ Some mimic → r ≡ mimic_at bodies i → columns_at bodies (leader_at bodies i) ≡ 1
+columns_followed bodies i mimic r h is at =
+    let found = found_in (body_at bodies i) (λ body. IfSome r (FollowsMaster bodies body)) h in
+    let f : FollowsMaster bodies found.0 mimic = subst (λ m. IfSome m (FollowsMaster bodies found.0)) is found.1 in
+    ap (columns_at bodies) (leader_master bodies i mimic (sym at ∙ is)) ∙ columns_master bodies found.0 mimic f

@@ -26,3 +26,5 @@ pub mod Ordering
 pub mod Entries
 pub mod PlacePass
 pub mod PlaceEncloses
+pub mod ColumnsFit
+pub mod NumbersLie

@@ -1,12 +1,12 @@
 -- The ends of all brackets of a robot and a state are in order, so there is a choice.
-use Rattle.std.proofs.Common.{◌≡◌, ◌≤◌, ◌<◌, ◌-◌, ℕ, zero, suc, List, length, get_or, Option, None, Some, inl, inr, refl, sym, ◌∙◌, ap, subst, arith}
-use Rattle.std.specs.List.{slice_get, All}
+use Rattle.std.proofs.Common.{◌≡◌, ◌≤◌, ◌-◌, ℕ, zero, suc, List, length, Option, Some, inl, inr, sym, subst, arith}
+use Rattle.std.specs.List.{All}
 use Rattle.std.specs.Option.{option_map_or}
 use Rattle.std.proofs.lemmas.Bool.{cases_lt}
 use Rattle.std.proofs.lemmas.List.{get_or_past}
 use Rattle.std.proofs.lemmas.Option.{slice_get_cases}
 use Rattle.rb_num.specs.Interval.{Interval, zero_interval}
-use Rattle.rb_flat.specs.Choice.{LinkBrackets, JointBrackets, MimicBrackets, LinkOrdered, JointOrdered, MimicOrdered, IsOrdered, IsRobotOrdered, IsStateOrdered, ColumnOrdered}
+use Rattle.rb_flat.specs.Choice.{LinkOrdered, JointOrdered, MimicOrdered, IsOrdered, IsRobotOrdered, IsStateOrdered}
 use Rattle.rb_flat.proofs.Choices.{has_choice}
 use Rattle.rb_body.specs.Raw.{link_brackets, joint_brackets}
 use Rattle.rb_tree.specs.declared.robot.Body.{Body}
@@ -17,7 +17,7 @@ use Rattle.rb_tree.specs.Shape.{shape_of, no_link, no_joint, no_mimic, brackets_
 use Rattle.rb_tree.specs.State.{Row, IsRow, at_place, state_brackets}
 use Rattle.rb_tree.specs.Laws.{HasChoiceInState}
 use Rattle.rb_tree.proofs.ListLaws.{All-at}
-use Rattle.rb_tree.proofs.Shapes.{Follower, follower, mimics_fit}
+use Rattle.rb_tree.proofs.Shapes.{follower, mimics_fit}
 use Rattle.rb_tree.proofs.StateLaws.{zero_ordered}
 
 -- a body that is there

@@ -1,8 +1,6 @@
 -- What a state keeps where numbers are set, and that the neutral state keeps it.
-use Rattle.std.proofs.Common.{◌≡◌, ℕ, List, [], ◌∷◌, ◌++◌, length, set, replicate, Option, None, Some, refl, sym, ◌∙◌, ap, subst, arith, pos, ◌≤ℤ◌}
+use Rattle.std.proofs.Common.{◌≡◌, ℕ, List, [], ◌∷◌, set, Option, None, Some, sym, subst, arith}
 use Rattle.std.specs.List.{All}
-use Rattle.std.proofs.lemmas.List.{length-append}
-use Rattle.std.proofs.lemmas.List.Sums.{sum_by-cons}
 use Rattle.std.proofs.lemmas.List.Elements.{All-set, All-nil, All-from_recursion, All-append, All-replicate}
 use Rattle.rb_frac.specs.Ops.{V3}
 use Rattle.rb_num.specs.Interval.{Interval, zero_interval, one_interval}
@@ -12,9 +10,9 @@ use Rattle.rb_flat.specs.Choice.{IsOrdered, AreOrdered}
 use Rattle.rb_joint.specs.Any.{kind_of}
 use Rattle.rb_tree.specs.declared.robot.Body.{Body}
 use Rattle.rb_tree.specs.declared.robot.Mimic.{Mimic}
-use Rattle.rb_tree.specs.Columns.{unless_mimic, own_entries, entry_count, column_count}
+use Rattle.rb_tree.specs.Columns.{column_count}
 use Rattle.rb_tree.specs.Robot.{Tree}
-use Rattle.rb_tree.specs.State.{Row, IsRow, Fits, neutral_entries, neutral_unless, neutral_of, neutral_position, neutral_under}
+use Rattle.rb_tree.specs.State.{Row, IsRow, neutral_entries, neutral_unless, neutral_of, neutral_position, neutral_under}
 
 set_ordered : (numbers : List Interval) (k : ℕ) (iv : Interval) → IsOrdered iv → All IsOrdered numbers → All IsOrdered (set numbers k iv)
 set_ordered numbers k iv h all = All-set IsOrdered numbers k iv h all
@@ -88,25 +86,6 @@ position_ordered : (bodies : List Body) → All IsOrdered (neutral_position bodi
 position_ordered [] = All-nil IsOrdered
 position_ordered (body ∷ rest) =
     All-append IsOrdered (neutral_of body) (neutral_position rest) (unless_ordered body.mimic _ (entries_ordered (kind_of body.joint))) (position_ordered rest)
-
-entries_long : (k : Kind) → length (neutral_entries k) ≡ Kinds.entry_count k
-entries_long Kinds.Fixed = refl
-entries_long Kinds.Revolute = refl
-entries_long Kinds.Continuous = refl
-entries_long Kinds.Prismatic = refl
-entries_long Kinds.Planar = refl
-entries_long Kinds.Free = refl
-
-unless_long : (m : Option Mimic) (entries : List Interval) (count : ℕ) → length entries ≡ count → length (neutral_unless m entries) ≡ unless_mimic m count
-unless_long None entries count h = h
-unless_long (Some mimic) entries count h = refl
-
-body_long : (body : Body) → length (neutral_of body) ≡ own_entries body
-body_long body = unless_long body.mimic _ _ (entries_long (kind_of body.joint))
-
-pub position_long : (bodies : List Body) → length (neutral_position bodies) ≡ entry_count bodies
-position_long [] = refl
-position_long (body ∷ rest) = omega (arith, length-append (neutral_of body) (neutral_position rest), body_long body, position_long rest, sum_by-cons own_entries body rest)
 
 pub neutral_row : (gravity : V3 Interval) (tree : Tree) (row : Row) → AreOrdered gravity → row ≡ neutral_under gravity tree → IsRow row.q row.v row.a row.tau row.gravity
 unfolding neutral_under

@@ -1,20 +1,19 @@
 -- The order and its faults, as the program meets them: over slices of the robot.
 use Rattle.std.proofs.Common.{◌≡◌, ◌<◌, ◌≤◌, ℕ, List, length, get_or, sym, ap, subst, arith, inl, inr}
-use Rattle.std.specs.List.{All, sum_by}
+use Rattle.std.specs.List.{All}
 use Rattle.rb_urdf.specs.declared.robot.UrdfJoint.{UrdfJoint}
 use Rattle.rb_urdf.specs.declared.robot.UrdfLink.{UrdfLink}
 use Rattle.rb_urdf.specs.Robot.{Robot}
-use Rattle.rb_tree.specs.declared.sizes.TheConstants.{MAX_LINKS, MAX_COLUMNS}
+use Rattle.rb_tree.specs.declared.sizes.TheConstants.{MAX_LINKS}
 use Rattle.rb_tree.specs.declared.order.Stem.{Stem}
 use Rattle.rb_tree.specs.declared.faults.TreeFault.{TreeFault}
 use Rattle.rb_tree.specs.declared.faults.TreeKind.{TreeKind}
-use Rattle.rb_tree.specs.declared.faults.TreeKind.TheVariants.{NoRoot, TwoRoots, Cycle, RootName, NameTwice, TooManyColumns}
+use Rattle.rb_tree.specs.declared.faults.TreeKind.TheVariants.{NoRoot, TwoRoots, Cycle}
 use Rattle.rb_tree.specs.declared.faults.WhichFile.TheVariants.{Urdf}
-use Rattle.rb_tree.specs.Sizes.{IsBuildable, stem_columns, PassColumns, HasOwnRootName, IsNamedAsRoot, HaveOwnNames, SharesName}
-use Rattle.rb_tree.specs.Order.{IsOrder, IsForest, IsAccepted, IsFirstFault, HasOrderFault}
+use Rattle.rb_tree.specs.Sizes.{IsBuildable}
+use Rattle.rb_tree.specs.Order.{IsOrder, IsForest, IsFirstFault, HasOrderFault}
 use Rattle.rb_tree.specs.Grow.{HasLink, IsGrown, IsClosed, IsFirstApart}
 use Rattle.rb_tree.specs.Roots.{HaveOneParent, HasRootBelow, HasRootFault}
-use Rattle.rb_tree.specs.Faults.{IsOfKind}
 use Rattle.rb_tree.proofs.Ordered.{order_grown, cycle_grown}
 
 as_fault : (robot : Robot) (root : UrdfJoint) (fault : TreeFault) (kind : TreeKind) → fault.file ≡ Urdf → fault.kind ≡ kind → IsFirstFault robot root kind fault.at →
@@ -63,56 +62,3 @@ module _ (robot : Robot) (links : List UrdfLink) (joints : List UrdfJoint) (el :
           cycle_grown robot root stems apart link fault.at grown_whole (subst C ej closed) only (subst L el (subst F es first)) (subst R el is)
               (ap (λ f. f.at) says),
         )
-
--- where there is an order
-module _ (robot : Robot) (root : UrdfJoint) (joints : List UrdfJoint) (ej : joints ≡ robot.joints) (stems : List Stem) (forest : IsForest robot) (order : IsOrder robot stems) where
-  root_name_of : HasOwnRootName root joints → HasOwnRootName root robot.joints
-  root_name_of own = let P : List UrdfJoint → Type 0 = λ xs. HasOwnRootName root xs in subst P ej own
-
-  module _ (seen : List Stem) (es : seen ≡ stems) where
-    names_of : HaveOwnNames root joints seen → HaveOwnNames root robot.joints stems
-    names_of own =
-        let P : List UrdfJoint → Type 0 = λ xs. HaveOwnNames root xs stems in
-        let Q : List Stem → Type 0 = λ xs. HaveOwnNames root joints xs in
-        subst P ej (subst Q es own)
-
-  pub root_name_fault : (fault : TreeFault) → IsOfKind RootName fault (IsNamedAsRoot root joints fault.at) → HasOrderFault robot root fault
-  root_name_fault fault h =
-      let P : List UrdfJoint → Type 0 = λ xs. IsNamedAsRoot root xs fault.at in
-      as_fault robot root fault RootName h.0 h.1 (forest, record { stems = stems; order = order; named = subst P ej h.2 })
-
-  pub name_twice_fault : HasOwnRootName root joints → (seen : List Stem) → seen ≡ stems → (fault : TreeFault) → IsOfKind NameTwice fault (SharesName root joints seen fault.at) →
-      HasOrderFault robot root fault
-  name_twice_fault own seen es fault h =
-      let P : List UrdfJoint → Type 0 = λ xs. SharesName root xs stems fault.at in
-      let Q : List Stem → Type 0 = λ xs. SharesName root joints xs fault.at in
-      as_fault robot root fault NameTwice h.0 h.1 (forest, record { stems = stems; order = order; root_name = root_name_of own; shares = subst P ej (subst Q es h.2) })
-
-  pub columns_fault : HasOwnRootName root joints → (seen : List Stem) → seen ≡ stems → HaveOwnNames root joints seen → (again : List Stem) → again ≡ stems → (fault : TreeFault) →
-      IsOfKind TooManyColumns fault (PassColumns root joints again fault.at) → HasOrderFault robot root fault
-  columns_fault own seen es names again ea fault h =
-      let P : List UrdfJoint → Type 0 = λ xs. PassColumns root xs stems fault.at in
-      let Q : List Stem → Type 0 = λ xs. PassColumns root joints xs fault.at in
-      as_fault robot root fault TooManyColumns h.0 h.1 (
-        forest,
-        record {
-          stems = stems;
-          order = order;
-          root_name = root_name_of own;
-          names = names_of seen es names;
-          pass = subst P ej (subst Q ea h.2);
-        },
-      )
-
-  pub accepted : HasOwnRootName root joints → (seen : List Stem) → seen ≡ stems → HaveOwnNames root joints seen → (again : List Stem) → again ≡ stems →
-      sum_by (stem_columns root joints) again ≤ MAX_COLUMNS → IsAccepted robot root stems
-  accepted own seen es names again ea few =
-      let P : List UrdfJoint → Type 0 = λ xs. sum_by (stem_columns root xs) stems ≤ MAX_COLUMNS in
-      let Q : List Stem → Type 0 = λ xs. sum_by (stem_columns root joints) xs ≤ MAX_COLUMNS in
-      record {
-        built = forest.small.built;
-        links = forest.small.few;
-        root_name = root_name_of own;
-        names = names_of seen es names;
-        columns = subst P ej (subst Q ea few);
-      }

@@ -1,5 +1,5 @@
 -- The numbers of a state: what contracts see of it, the neutral state of a robot, and the brackets that choices take.
-use Rattle.std.specs.Prelude.{◌≡◌, ℕ, ◌-◌, ℤ, pos, neg_ℤ, List, [], ◌∷◌, length, replicate, slice_index_or, flat_map, Option, None, Some}
+use Rattle.std.specs.Prelude.{◌≡◌, ℕ, ◌-◌, pos, neg_ℤ, List, [], ◌∷◌, length, replicate, slice_index_or, flat_map, Option, None, Some}
 use Rattle.std.specs.List.{All}
 use Rattle.rb_frac.specs.Ops.{V3}
 use Rattle.rb_num.specs.Interval.{Interval, interval, zero_interval, one_interval}

@@ -149,6 +149,9 @@ pub fn place_all(robot: &Robot, state: &State, work: &mut Work) -> Result<(), Ro
     // the place of each body, for each choice of numbers in the brackets of the robot and of the row, lies in its value
     ensures encloses { OnOk result (EnclosesPlaces robot.now state.now work.new) }
 
+    // it leaves what the rules give, body by body
+    ensures exact { Answers result (places_of robot.now state.now work.old) work.new }
+
     // all else is as it was
     ensures others { work.new ≡ record work.old { q = work.new.q; X = work.new.X } }
 {

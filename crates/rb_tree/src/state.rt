@@ -147,6 +147,22 @@ impl State {
         self.a[k]
     }
 
+    /// The speeds of the columns, from column 1 on.
+    #[inline]
+    pub fn speeds(&self) -> &[Iv]
+        ensures { result.now ≡ self.now.v }
+    {
+        self.v.as_slice()
+    }
+
+    /// The accelerations of the columns, from column 1 on.
+    #[inline]
+    pub fn accelerations(&self) -> &[Iv]
+        ensures { result.now ≡ self.now.a }
+    {
+        self.a.as_slice()
+    }
+
     /// The torque of column `k + 1`.
     #[inline]
     pub fn tau(&self, k: usize) -> Iv

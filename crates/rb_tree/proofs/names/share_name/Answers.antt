@@ -1,4 +1,4 @@
-use Rattle.std.proofs.Common.{◌↔◌, ◌⊎◌, Bool, true, false, ◌≡◌, IsTrue, inl, inr}
+use Rattle.std.proofs.Common.{◌↔◌, IsTrue, inl}
 use Rattle.rb_body.specs.Raw.{kind_of}
 use Rattle.rb_tree.specs.Names.{entry_names, column_names, HaveCommon}
 use Rattle.rb_tree.proofs.NameLaws.{common_is, second_alone}

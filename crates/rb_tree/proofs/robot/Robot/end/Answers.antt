@@ -1,4 +1,4 @@
-use Rattle.std.proofs.Common.{◌+◌, ap, ◌∙◌, length, arith}
+use Rattle.std.proofs.Common.{◌+◌, ap, ◌∙◌, arith}
 use Rattle.rb_tree.specs.declared.columns.Start.{Start}
 use Rattle.rb_tree.specs.Robot.{Tree}
 use Rattle.rb_tree.specs.Columns.{full_count, column_count, entry_count}

@@ -1,4 +1,3 @@
-use Rattle.std.proofs.Common.{rules}
 use Rattle.rb_flat.specs.Choice.{AreOrdered}
 use Rattle.rb_tree.proofs.StateLaws.{with_gravity}
 use Rattle.rb_tree.proofs.state.State.set_gravity.Goals as goal
