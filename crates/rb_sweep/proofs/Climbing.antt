@@ -224,11 +224,6 @@ unfolding upward
 map_upward_same f g lo hi h = map_counting_same f g (hi - lo) lo (λ i low high. h i low (omega arith))
 
 -- ---- sweeps over numbers whose steps are the same there
-counting_up_below : (k lo i : ℕ) → Among i (counting_up lo k) → i < lo + k
-counting_up_below zero lo i h = absurd h
-counting_up_below (suc k) lo i (inl e) = omega arith
-counting_up_below (suc k) lo i (inr h) = let l : i < lo + 1 + k = counting_up_below k (lo + 1) i h in omega arith
-
 pub upward_same : {S E : Type 0} (step other : ℕ → S → Result S E) (lo hi : ℕ) → ((j : ℕ) (s : S) → lo ≤ j → j < hi → step j s ≡ other j s)
     → (s : S) → sweep step (upward lo hi) s ≡ sweep other (upward lo hi) s
 unfolding upward
