@@ -21,7 +21,7 @@ returns-then-eq-clause-err c =
         number = c.loop-joint.joint-index;
         joint = joint;
         is = slice_get_read joints (length joints) c.loop-joint.joint-index joint refl c.loop-joint-test.true c.joint-item.is;
-        name = sym c.as_str.ensures ∙ (same ∙ c.as_str-in-loop-joint.ensures);
+        name = sym c.as_str.ensures.same ∙ (same ∙ c.as_str-in-loop-joint.ensures.same);
         place = ap (λ f. f.at) says;
       },
     )
@@ -30,7 +30,7 @@ pub loop-joint-preserved : goal.loop-joint-preserved
 loop-joint-preserved c =
     let joint = c.joint-item.result in
     let decides = slice_eq-Decides Decides-eqb c.as_str.result.now c.as_str-in-loop-joint.result.now c.eq.result c.eq.ensures in
-    let apart : joint.name ≢ c.args.root.now.name = λ e. absurd (let t = decides.1 (c.as_str.ensures ∙ (e ∙ sym c.as_str-in-loop-joint.ensures)) in let f = c.if-eq.false in let g = sym t ∙ f in cc) in
+    let apart : joint.name ≢ c.args.root.now.name = λ e. absurd (let t = decides.1 (c.as_str.ensures.same ∙ (e ∙ sym c.as_str-in-loop-joint.ensures.same)) in let f = c.if-eq.false in let g = sym t ∙ f in cc) in
     let P : UrdfJoint → Type 0 = λ j. j.name ≢ c.args.root.now.name in
     All-more P c.args.joints.now c.loop-joint.joint-index joint c.loop-joint-test.true c.loop-joint.invariant (subst P c.joint-item.is apart)
 
