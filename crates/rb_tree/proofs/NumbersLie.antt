@@ -12,9 +12,9 @@ use Rattle.rb_joint.specs.Any.{kind_of, IsOfModel}
 use Rattle.rb_body.specs.Raw.{link_brackets, joint_brackets}
 use Rattle.rb_tree.specs.declared.robot.Body.{Body}
 use Rattle.rb_tree.specs.Columns.{body_at}
-use Rattle.rb_tree.specs.Numbers.{joint_at, inertia_at, mimic_at, no_joint, no_inertia}
+use Rattle.rb_tree.specs.Numbers.{joint_at, inertia_at, no_joint, no_inertia}
 use Rattle.rb_tree.specs.Robot.{Tree, HasBody, IsBodyKept, AreBodies}
-use Rattle.rb_tree.specs.Shape.{master_at, no_link, mimic_brackets, brackets_of}
+use Rattle.rb_tree.specs.Shape.{master_at, no_link, following_at, brackets_of}
 use Rattle.rb_tree.specs.Shape as Shape
 use Rattle.rb_tree.specs.State.{Row, state_brackets}
 use Rattle.rb_tree.proofs.ListLaws.{All-at}
@@ -26,7 +26,7 @@ kept_at bodies zero body all is = absurd cc
 kept_at bodies (suc k) body all is = All-at IsBodyKept bodies k body all is
 
 module _ (tree : Tree) (row : Row) (c : Choice) (chosen : IsChoice (brackets_of tree) (state_brackets row) c) where
-  pub multiplier_lies : (i master : ℕ) → HasBody tree i → master_at tree.bodies i ≡ Some master → LiesIn (c.joint i).multiplier (mimic_brackets (mimic_at tree.bodies i)).multiplier
+  pub multiplier_lies : (i master : ℕ) → HasBody tree i → master_at tree.bodies i ≡ Some master → LiesIn (c.joint i).multiplier (following_at tree.bodies i).multiplier
   multiplier_lies i master has e =
       let b = chosen.bodies i (record { from = has.from; to = has.to }) in
       let f : FollowsMaster (c.joint i) (c.joint master) ((brackets_of tree).mimic i) = subst (λ (m : Option ℕ). EntriesChosen (brackets_of tree) (state_brackets row) c i m) e b.entries in

@@ -34,7 +34,7 @@ use Rattle.rb_tree.specs.declared.robot.Mimic.{Mimic}
 use Rattle.rb_tree.specs.Columns.{body_at, leader_at, first_entry, start_behind}
 use Rattle.rb_tree.specs.Numbers.{joint_at, mimic_at, no_joint}
 use Rattle.rb_tree.specs.Robot.{Tree, HasBody, FollowsMaster, AreBodies, mimic_brackets}
-use Rattle.rb_tree.specs.Shape.{kind_at, master_of, master_at, shape_of, brackets_of}
+use Rattle.rb_tree.specs.Shape.{kind_at, master_of, master_at, shape_of, no_mimic, following_at, brackets_of}
 use Rattle.rb_tree.specs.Shape as Shape
 use Rattle.rb_tree.specs.State.{Row, at_place, state_brackets}
 use Rattle.rb_tree.specs.Places.{padded, entries_by, q_rule, X_rule, ArePlaces, EnclosesPlaces}
@@ -66,10 +66,10 @@ master_same bodies i = go (body_at bodies i)
     go None = refl
     go (Some body) = refl
 
-pub mimic_same : (tree : Tree) (i : ℕ) → (brackets_of tree).mimic i ≡ mimic_brackets (mimic_at tree.bodies i)
+pub mimic_same : (tree : Tree) (i : ℕ) → (brackets_of tree).mimic i ≡ following_at tree.bodies i
 mimic_same tree i = go (body_at tree.bodies i)
   where
-    go : (o : Option Body) → option_map_or (λ (b : Body). mimic_brackets b.mimic) o (mimic_brackets None) ≡ mimic_brackets (option_map_or (λ (b : Body). b.mimic) o None)
+    go : (o : Option Body) → option_map_or (λ (b : Body). option_map_or mimic_brackets b.mimic no_mimic) o no_mimic ≡ option_map_or mimic_brackets (option_map_or (λ (b : Body). b.mimic) o None) no_mimic
     go None = refl
     go (Some body) = refl
 
@@ -129,7 +129,7 @@ module _ (tree : Tree) (row : Row) (kept : AreBodies tree.bodies) (c : Choice) (
       let b = chosen.bodies i (record { from = has.from; to = has.to }) in
       let follows : Flat.FollowsMaster (c.joint i) (c.joint mimic.master) ((brackets_of tree).mimic i) =
       subst (λ m. EntriesChosen (brackets_of tree) (state_brackets row) c i m) (master_same bodies i ∙ ap master_of em) b.entries in
-      let brackets : (brackets_of tree).mimic i ≡ mimic_brackets (Some mimic) = mimic_same tree i ∙ ap mimic_brackets em in
+      let brackets : (brackets_of tree).mimic i ≡ mimic_brackets mimic = mimic_same tree i ∙ ap (λ m. option_map_or mimic_brackets m no_mimic) em in
       let bm : body.mimic ≡ Some mimic = sym (ap (λ (o : Option Body). option_map_or (λ (b : Body). b.mimic) o None) is) ∙ em in
       let f = kept.follows i body mimic is bm in
       let fit = mimics_fit tree kept i mimic.master (record { from = has.from; to = has.to }) (master_same bodies i ∙ ap master_of em) in

@@ -1,6 +1,7 @@
 -- The entries and the places, and the first refusal, are determined by the robot and the row alone.
 use Rattle.std.proofs.Common.{◌≡◌, ℕ, ◌+◌, ◌*◌, ◌<◌, ◌≤◌, List, [], ◌∷◌, length, Result, Ok, Err, inl, inr, refl, ap, sym, ◌∙◌, arith}
-use Rattle.rb_work.specs.View.{View, Extent, extent_of, q_at}
+use Rattle.rb_work.specs.Path.{Ascends}
+use Rattle.rb_work.specs.View.{View, Extent, IsSized, extent_of, q_at}
 use Rattle.rb_work.specs.Place.{Place, q_of, X_of, ValueOf, look, put}
 use Rattle.rb_work.specs.declared.names.RowFault.{RowFault}
 use Rattle.rb_sweep.specs.Sweep.{Among}
@@ -8,7 +9,7 @@ use Rattle.rb_sweep.specs.Naming.{Stands, run}
 use Rattle.rb_sweep.proofs.Climbing.{climbs_upward, among_upward, run_upward}
 use Rattle.rb_sweep.proofs.NamingLaws.{found, refusal, same_values, not_both, one_refusal}
 use Rattle.rb_work.proofs.PlaceLaws.{Inside, Call, IsCall, naming, ordered}
-use Rattle.rb_work.proofs.Sizes.{sizes_of, sizes_for}
+use Rattle.rb_work.proofs.Sizes.{room_for}
 use Rattle.rb_tree.specs.Robot.{Tree, HasBody}
 use Rattle.rb_tree.specs.State.{Row}
 use Rattle.rb_tree.specs.Places.{q_rule, X_rule, ArePlaces, PlacesHaveOneAnswer, rule, order, IsPlaceRefused, place_step, places_of}
@@ -61,10 +62,11 @@ listed tree (X_of i) k = let low = k.from in let high = k.to in among_upward (λ
 listed tree _ k = absurd k
 
 module _ (tree : Tree) (row : Row) where
-  pub is_call : (extent : Extent) → extent.bodies ≡ length tree.bodies → IsCall (call tree row extent)
+  pub is_call : (extent : Extent) → extent.bodies ≡ length tree.bodies → Ascends extent.up → IsCall (call tree row extent)
   unfolding place_step
-  is_call extent e =
+  is_call extent e ascends =
       record {
+        ascends = ascends;
         first = 2;
         end = 2 * (length tree.bodies + 1);
         climbs = climbs_upward rank (Own tree) (λ i. q_of i ∷ X_of i ∷ []) (λ i. 2 * i) 1 (length tree.bodies + 1) (omega arith)
@@ -86,12 +88,12 @@ module _ (tree : Tree) (row : Row) where
   holds w h _ k = absurd k
 
   -- ---- what a call answers
-  pub places_found : (w t : View) → sizes_of w ≡ sizes_for (extent_of w) → w.bodies ≡ length tree.bodies → places_of tree row w ≡ Ok t → ArePlaces tree row t
-  places_found w t f b e = are_places t (found _ _ (ordered (call tree row (extent_of w)) (is_call (extent_of w) b)) w t f e).holds
+  pub places_found : (w t : View) → IsSized w → w.bodies ≡ length tree.bodies → places_of tree row w ≡ Ok t → ArePlaces tree row t
+  places_found w t sized b e = are_places t (found _ _ (ordered (call tree row (extent_of w)) (is_call (extent_of w) b sized.extent.ascends)) w t (room_for w (extent_of w) sized refl) e).holds
 
-  pub place_refused : (w : View) (e : RowFault) → sizes_of w ≡ sizes_for (extent_of w) → w.bodies ≡ length tree.bodies → places_of tree row w ≡ Err e → IsPlaceRefused tree row e
-  place_refused w e f b r =
-      let h = refusal _ _ (ordered (call tree row (extent_of w)) (is_call (extent_of w) b)) w e f r in
+  pub place_refused : (w : View) (e : RowFault) → IsSized w → w.bodies ≡ length tree.bodies → places_of tree row w ≡ Err e → IsPlaceRefused tree row e
+  place_refused w e sized b r =
+      let h = refusal _ _ (ordered (call tree row (extent_of w)) (is_call (extent_of w) b sized.extent.ascends)) w e (room_for w (extent_of w) sized refl) r in
       record { values = h.reached; first = h.first }
 
   -- ---- one answer
@@ -99,13 +101,13 @@ module _ (tree : Tree) (row : Row) where
   some_extent = record { bodies = length tree.bodies; full = 0; up = []; rows = 0 }
 
   pub same_places : (u w : View) → ArePlaces tree row u → ArePlaces tree row w → (m : Place) → Own tree m → look m u ≡ look m w
-  same_places u w hu hw = same_values _ _ (ordered (call tree row some_extent) (is_call some_extent refl)) u w (λ g. absurd g.1) (holds u hu) (holds w hw)
+  same_places u w hu hw = same_values _ _ (ordered (call tree row some_extent) (is_call some_extent refl (λ c low high. absurd (omega arith)))) u w (λ g. absurd g.1) (holds u hu) (holds w hw)
 
   pub places_or_refused : (u : View) (e : RowFault) → ArePlaces tree row u → IsPlaceRefused tree row e → ⊥
-  places_or_refused u e hu r = not_both _ _ (ordered (call tree row some_extent) (is_call some_extent refl)) u r.values e (λ g. absurd g.1) (holds u hu) r.first
+  places_or_refused u e hu r = not_both _ _ (ordered (call tree row some_extent) (is_call some_extent refl (λ c low high. absurd (omega arith)))) u r.values e (λ g. absurd g.1) (holds u hu) r.first
 
   pub one_place_refused : (d e : RowFault) → IsPlaceRefused tree row d → IsPlaceRefused tree row e → d ≡ e
-  one_place_refused d e q r = one_refusal _ _ (ordered (call tree row some_extent) (is_call some_extent refl)) q.values r.values d e (λ g. absurd g.1) q.first r.first
+  one_place_refused d e q r = one_refusal _ _ (ordered (call tree row some_extent) (is_call some_extent refl (λ c low high. absurd (omega arith)))) q.values r.values d e (λ g. absurd g.1) q.first r.first
 
 pub one_answer : (tree : Tree) (row : Row) → PlacesHaveOneAnswer tree row
 one_answer tree row = record {

@@ -13,6 +13,7 @@ use Rattle.rb_body.specs.Raw.{link_brackets, joint_brackets}
 use Rattle.rb_tree.specs.declared.robot.Body.{Body}
 use Rattle.rb_tree.specs.declared.robot.Mimic.{Mimic}
 use Rattle.rb_tree.specs.Columns.{body_at, parent_at, column_count, first_column, first_entry, body_of_column}
+use Rattle.rb_tree.specs.Numbers.{mimic_at}
 use Rattle.rb_tree.specs.Robot.{Tree, mimic_brackets}
 
 -- ---- of a body by its number
@@ -52,6 +53,10 @@ no_joint =
 
 abbrev pub no_mimic : MimicBrackets
 no_mimic = record { multiplier = zero_interval; offset = zero_interval }
+
+-- by how much the joint of body i follows another
+abbrev pub following_at : List Body → ℕ → MimicBrackets
+following_at bodies i = option_map_or mimic_brackets (mimic_at bodies i) no_mimic
 
 abbrev pub brackets_of : Tree → RobotBrackets
 brackets_of tree = record {

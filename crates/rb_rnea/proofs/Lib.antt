@@ -1,0 +1,10 @@
+pub mod RowPass
+pub mod Enclosed
+pub mod Pass
+pub mod Sweeps
+pub mod MotionsLie
+pub mod ForcesLie
+pub mod Lies
+pub mod Listed
+pub mod RatesLie
+pub mod DynamicsEnclose

@@ -1,0 +1,114 @@
+//! The accelerations of the bodies and the forces that they need, from the root on.
+
+ghost use Rattle.std.specs.Prelude.{◌≡◌, ◌+◌, length, IfErr};
+ghost use Rattle.rb_sweep.specs.Sweep.{Answers};
+ghost use Rattle.rb_tree.specs.Columns.{column_count};
+ghost use Rattle.rb_tree.specs.Robot.{HasBody};
+ghost use Rattle.rb_rnea.specs.Accelerations.{world_acceleration, turning_by, acceleration_by, need_by};
+ghost use Rattle.rb_rnea.specs.Steps.{acceleration_step, accelerations_of};
+
+use crate::rates::{motion_at, rates_at};
+use rb_num::{Iv, NumFault};
+use rb_spatial::{Force, Motion, Vec3, apply, cross, cross_dual, sum_forces, sum_motions, table, times};
+use rb_tree::{Robot, State};
+use rb_work::{Capitals, Name, NameKind, RowFault, Work, named};
+
+// How the world accelerates.
+fn against_gravity(state: &State) -> Motion
+    ensures { result ≡ world_acceleration state.now }
+{
+    let g = state.gravity();
+    Motion {
+        lin: Vec3::new(g.x().neg(), g.y().neg(), g.z().neg()),
+        ang: Vec3::new(Iv::ZERO, Iv::ZERO, Iv::ZERO),
+    }
+}
+
+// How the motion over the joint changes as it moves along with the body.
+#[tactic(auto, unfolding(crate::specs::Accelerations::turning_by))]
+fn moved_along(robot: &Robot, i: u32, work: &Work) -> Result<Motion, NumFault>
+    requires room { work.now.bodies ≡ length robot.now.bodies }
+    requires there { HasBody robot.now i }
+    ensures exact { result ≡ turning_by robot.now.bodies i work.now }
+    ensures size { IfErr result (λ e. e ≡ NumFault.Size) }
+{
+    let own = motion_at(robot, i, work.s(i))?;
+    cross(work.v(i), &own)
+}
+
+// The acceleration of a body, from its parent's.
+#[tactic(auto, unfolding(crate::specs::Accelerations::acceleration_by))]
+fn acceleration_at(robot: &Robot, accelerations: &[Iv], i: u32, work: &Work) -> Result<Motion, NumFault>
+    requires long { length accelerations.now ≡ column_count robot.now.bodies }
+    requires room { work.now.bodies ≡ length robot.now.bodies }
+    requires there { HasBody robot.now i }
+    ensures exact { result ≡ acceleration_by robot.now.bodies accelerations.now i work.now }
+    ensures size { IfErr result (λ e. e ≡ NumFault.Size) }
+{
+    let rates = rates_at(robot, accelerations, i)?;
+    let own = motion_at(robot, i, &rates)?;
+    let carried = apply(work.X(i), work.a(robot.parent(i)))?;
+    let both = sum_motions(&carried, &own)?;
+    sum_motions(&both, work.c(i))
+}
+
+// What moves a body.
+#[tactic(auto, unfolding(crate::specs::Accelerations::need_by))]
+fn need_at(robot: &Robot, i: u32, work: &Work) -> Result<Force, NumFault>
+    requires room { work.now.bodies ≡ length robot.now.bodies }
+    requires there { HasBody robot.now i }
+    ensures exact { result ≡ need_by robot.now.bodies i work.now }
+    ensures size { IfErr result (λ e. e ≡ NumFault.Size) }
+{
+    let inertia = table(robot.inertia(i));
+    let v = work.v(i);
+    let force = times(&inertia, work.a(i))?;
+    let momentum = times(&inertia, v)?;
+    let turned = cross_dual(v, &momentum)?;
+    sum_forces(&force, &turned)
+}
+
+// The names of one body.
+#[tactic(auto, unfolding(crate::specs::Accelerations::c_rule, crate::specs::Accelerations::a_rule, crate::specs::Accelerations::b_rule, crate::specs::Steps::acceleration_step))]
+fn body_accelerations(
+    robot: &Robot,
+    state: &State,
+    accelerations: &[Iv],
+    i: u32,
+    work: &mut Work,
+) -> Result<(), RowFault>
+    requires long { length accelerations.now ≡ column_count robot.now.bodies }
+    requires room { work.old.bodies ≡ length robot.now.bodies }
+    requires there { HasBody robot.now i }
+    ensures step { Answers result (acceleration_step robot.now (record state.now { a = accelerations.now }) i work.old) work.new }
+    ensures others { work.new ≡ record work.old { c = work.new.c; a = work.new.a; b = work.new.b } }
+{
+    let c = named(moved_along(robot, i, work), Name::one(NameKind::c, i))?;
+    work.set_c(i, c);
+    let a = named(acceleration_at(robot, accelerations, i, work), Name::one(NameKind::a, i))?;
+    work.set_a(i, a);
+    let b = named(need_at(robot, i, work), Name::one(NameKind::b, i))?;
+    work.set_b(i, b);
+    Ok(())
+}
+
+// The sweep over the bodies.
+#[tactic(auto, using(rb_sweep::proofs::SweepSteps::sweeps))]
+pub(crate) fn sweep_accelerations(
+    robot: &Robot,
+    state: &State,
+    accelerations: &[Iv],
+    work: &mut Work,
+) -> Result<(), RowFault>
+    requires long { length accelerations.now ≡ column_count robot.now.bodies }
+    requires room { work.old.bodies ≡ length robot.now.bodies }
+    ensures exact { Answers result (accelerations_of robot.now (record state.now { a = accelerations.now }) work.old) work.new }
+    ensures others { work.new ≡ record work.old { c = work.new.c; a = work.new.a; b = work.new.b } }
+{
+    work.set_a(0, against_gravity(state));
+    let end = robot.bodies() + 1;
+    for i in 1..end {
+        body_accelerations(robot, state, accelerations, i, work)?;
+    }
+    Ok(())
+}

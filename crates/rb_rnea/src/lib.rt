@@ -1,0 +1,13 @@
+//! Inverse dynamics of a tree of rigid bodies in intervals: the recursive Newton-Euler algorithm (Featherstone, Rigid Body Dynamics Algorithms,
+//! chapter 5).
+#![tactic(auto)]
+
+mod accelerations;
+mod forces;
+pub mod laws;
+mod rates;
+mod row;
+mod speeds;
+mod torques;
+
+pub use row::{bias, rnea};

@@ -1,0 +1,85 @@
+//! The speeds of the joints and the velocities of the bodies, from the root on.
+
+ghost use Rattle.std.specs.Prelude.{◌≡◌, ◌+◌, length, IfErr};
+ghost use Rattle.rb_sweep.specs.Sweep.{Answers};
+ghost use Rattle.rb_work.specs.Zeros.{zero_motion};
+ghost use Rattle.rb_tree.specs.Robot.{HasBody};
+ghost use Rattle.rb_tree.specs.State.{Fits};
+ghost use Rattle.rb_rnea.specs.Speeds.{checked_rates, velocity_by};
+ghost use Rattle.rb_rnea.specs.Steps.{speed_step, speeds_of};
+
+use crate::rates::{motion_at, rates_at};
+use rb_num::{Iv, NumFault};
+use rb_spatial::{Motion, Vec3, apply, sum_motions};
+use rb_tree::{Robot, State};
+use rb_work::{Capitals, Name, NameKind, RowFault, Work, named};
+
+// How the world moves.
+#[tactic(auto, unfolding(rb_work::specs::Zeros::zero_motion))]
+fn still() -> Motion
+    ensures { result ≡ zero_motion }
+{
+    let nothing = Vec3::new(Iv::ZERO, Iv::ZERO, Iv::ZERO);
+    Motion {
+        lin: nothing,
+        ang: nothing,
+    }
+}
+
+// The speeds of a joint, with which its motion is within the limit.
+#[tactic(auto, unfolding(crate::specs::Speeds::checked_rates))]
+fn speeds_at(robot: &Robot, state: &State, i: u32) -> Result<[Iv; 6], NumFault>
+    requires fits { Fits robot.now state.now }
+    requires there { HasBody robot.now i }
+    ensures exact { result ≡ checked_rates robot.now.bodies state.now.v i }
+    ensures size { IfErr result (λ e. e ≡ NumFault.Size) }
+{
+    let rates = rates_at(robot, state.speeds(), i)?;
+    motion_at(robot, i, &rates)?;
+    Ok(rates)
+}
+
+// The velocity of a body, from its parent's.
+#[tactic(auto, unfolding(crate::specs::Speeds::velocity_by))]
+fn velocity_at(robot: &Robot, i: u32, work: &Work) -> Result<Motion, NumFault>
+    requires room { work.now.bodies ≡ length robot.now.bodies }
+    requires there { HasBody robot.now i }
+    ensures exact { result ≡ velocity_by robot.now.bodies i work.now }
+    ensures size { IfErr result (λ e. e ≡ NumFault.Size) }
+{
+    let carried = apply(work.X(i), work.v(robot.parent(i)))?;
+    let own = motion_at(robot, i, work.s(i))?;
+    sum_motions(&carried, &own)
+}
+
+// The names of one body.
+#[tactic(auto, unfolding(crate::specs::Speeds::s_rule, crate::specs::Speeds::v_rule, crate::specs::Steps::speed_step))]
+fn body_speeds(robot: &Robot, state: &State, i: u32, work: &mut Work) -> Result<(), RowFault>
+    requires fits { Fits robot.now state.now }
+    requires room { work.old.bodies ≡ length robot.now.bodies }
+    requires there { HasBody robot.now i }
+    ensures step { Answers result (speed_step robot.now state.now i work.old) work.new }
+    ensures others { work.new ≡ record work.old { s = work.new.s; v = work.new.v } }
+{
+    let s = named(speeds_at(robot, state, i), Name::one(NameKind::s, i))?;
+    work.set_s(i, s);
+    let v = named(velocity_at(robot, i, work), Name::one(NameKind::v, i))?;
+    work.set_v(i, v);
+    Ok(())
+}
+
+// The sweep over the bodies.
+#[tactic(auto, using(rb_sweep::proofs::SweepSteps::sweeps))]
+pub(crate) fn sweep_speeds(robot: &Robot, state: &State, work: &mut Work) -> Result<(), RowFault>
+    requires fits { Fits robot.now state.now }
+    requires room { work.old.bodies ≡ length robot.now.bodies }
+    ensures exact { Answers result (speeds_of robot.now state.now work.old) work.new }
+    ensures others { work.new ≡ record work.old { s = work.new.s; v = work.new.v } }
+{
+    work.set_v(0, still());
+    let end = robot.bodies() + 1;
+    for i in 1..end {
+        body_speeds(robot, state, i, work)?;
+    }
+    Ok(())
+}
