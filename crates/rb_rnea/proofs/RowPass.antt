@@ -300,16 +300,20 @@ module _ (tree : Tree) (row : Row) (extent : Extent) where
       climbs_append r k (place_order tree) (speed_order tree ++ (acceleration_order tree ++ (force_order tree ++ (body_order tree ++ column_order tree)))) 2 (2 * p) end
       (climbs_upward r k (λ i. q_of i ∷ X_of i ∷ []) (λ i. 2 * i) 1 (n + 1) (omega arith)
       (λ i low high. let has = has_body tree i low (omega arith) in (has, omega arith, (has, omega arith, omega arith))))
-      (climbs_append r k (speed_order tree) (acceleration_order tree ++ (force_order tree ++ (body_order tree ++ column_order tree))) (2 * p) (4 * p) end
-      (omega arith, omega arith,
-      climbs_widen r k speeds (2 * p + 2 * 1) (2 * p + 2 * (n + 1)) (2 * p + 2 * 0 + 1 + 1) (4 * p) (omega arith) (omega arith)
-      (climbs_upward r k (λ i. s_of i ∷ v_of i ∷ []) (λ i. 2 * p + 2 * i) 1 (n + 1) (omega arith)
-      (λ i low high. (has_body tree i low (omega arith), omega arith, (omega arith, omega arith, omega arith)))))
-      (climbs_append r k (acceleration_order tree) (force_order tree ++ (body_order tree ++ column_order tree)) (4 * p) (7 * p) end
-      (omega arith, omega arith,
-      climbs_widen r k accelerations (4 * p + 3 * 1) (4 * p + 3 * (n + 1)) (4 * p + 3 * 0 + 1 + 1) (7 * p) (omega arith) (omega arith)
-      (climbs_upward r k (λ i. c_of i ∷ a_of i ∷ b_of i ∷ []) (λ i. 4 * p + 3 * i) 1 (n + 1) (omega arith)
-      (λ i low high. let has = has_body tree i low (omega arith) in (has, omega arith, (omega arith, omega arith, (has, omega arith, omega arith))))))
+      (climbs_append r k (speed_order tree) (acceleration_order tree ++ (force_order tree ++ (body_order tree ++ column_order tree))) (2 * p) (4 * p) end (
+        omega arith,
+        omega arith,
+        climbs_widen r k speeds (2 * p + 2 * 1) (2 * p + 2 * (n + 1)) (2 * p + 2 * 0 + 1 + 1) (4 * p) (omega arith) (omega arith)
+            (climbs_upward r k (λ i. s_of i ∷ v_of i ∷ []) (λ i. 2 * p + 2 * i) 1 (n + 1) (omega arith)
+            (λ i low high. (has_body tree i low (omega arith), omega arith, (omega arith, omega arith, omega arith)))),
+      )
+      (climbs_append r k (acceleration_order tree) (force_order tree ++ (body_order tree ++ column_order tree)) (4 * p) (7 * p) end (
+        omega arith,
+        omega arith,
+        climbs_widen r k accelerations (4 * p + 3 * 1) (4 * p + 3 * (n + 1)) (4 * p + 3 * 0 + 1 + 1) (7 * p) (omega arith) (omega arith)
+            (climbs_upward r k (λ i. c_of i ∷ a_of i ∷ b_of i ∷ []) (λ i. 4 * p + 3 * i) 1 (n + 1) (omega arith)
+            (λ i low high. let has = has_body tree i low (omega arith) in (has, omega arith, (omega arith, omega arith, (has, omega arith, omega arith))))),
+      )
       (climbs_append r k (force_order tree) (body_order tree ++ column_order tree) (7 * p) (8 * p) end
       (climbs_widen r k (force_order tree) (7 * p + (n + 1 - (n + 1))) (7 * p + (n + 1 - 1)) (7 * p) (8 * p) (omega arith) (omega arith)
       (climbs_downward r k (λ i. f_of i ∷ []) (λ i. 7 * p + (n + 1 - i)) 1 (n + 1) (omega arith)

@@ -9,7 +9,9 @@ ghost use Rattle.rb_rnea.specs.Steps.{acceleration_step, accelerations_of};
 
 use crate::rates::{motion_at, rates_at};
 use rb_num::{Iv, NumFault};
-use rb_spatial::{Force, Motion, Vec3, apply, cross, cross_dual, sum_forces, sum_motions, table, times};
+use rb_spatial::{
+    Force, Motion, Vec3, apply, cross, cross_dual, sum_forces, sum_motions, table, times,
+};
 use rb_tree::{Robot, State};
 use rb_work::{Capitals, Name, NameKind, RowFault, Work, named};
 
@@ -38,7 +40,12 @@ fn moved_along(robot: &Robot, i: u32, work: &Work) -> Result<Motion, NumFault>
 
 // The acceleration of a body, from its parent's.
 #[tactic(auto, unfolding(crate::specs::Accelerations::acceleration_by))]
-fn acceleration_at(robot: &Robot, accelerations: &[Iv], i: u32, work: &Work) -> Result<Motion, NumFault>
+fn acceleration_at(
+    robot: &Robot,
+    accelerations: &[Iv],
+    i: u32,
+    work: &Work,
+) -> Result<Motion, NumFault>
     requires long { length accelerations.now ≡ column_count robot.now.bodies }
     requires room { work.now.bodies ≡ length robot.now.bodies }
     requires there { HasBody robot.now i }
@@ -85,7 +92,10 @@ fn body_accelerations(
 {
     let c = named(moved_along(robot, i, work), Name::one(NameKind::c, i))?;
     work.set_c(i, c);
-    let a = named(acceleration_at(robot, accelerations, i, work), Name::one(NameKind::a, i))?;
+    let a = named(
+        acceleration_at(robot, accelerations, i, work),
+        Name::one(NameKind::a, i),
+    )?;
     work.set_a(i, a);
     let b = named(need_at(robot, i, work), Name::one(NameKind::b, i))?;
     work.set_b(i, b);

@@ -15,7 +15,12 @@ use rb_tree::{MAX_COLUMNS, Robot, State, place_all};
 use rb_work::{RowFault, Work};
 
 // The sweeps of a row with these accelerations.
-fn sweeps(robot: &Robot, state: &State, accelerations: &[Iv], work: &mut Work) -> Result<(), RowFault>
+fn sweeps(
+    robot: &Robot,
+    state: &State,
+    accelerations: &[Iv],
+    work: &mut Work,
+) -> Result<(), RowFault>
     requires fits { Fits robot.now state.now }
     requires long { length accelerations.now ≡ column_count robot.now.bodies }
     requires room { IsFor robot.now work.old }
@@ -31,7 +36,12 @@ fn sweeps(robot: &Robot, state: &State, accelerations: &[Iv], work: &mut Work) -
 }
 
 // The values of a row with these accelerations.
-fn dynamics(robot: &Robot, state: &State, accelerations: &[Iv], work: &mut Work) -> Result<(), RowFault>
+fn dynamics(
+    robot: &Robot,
+    state: &State,
+    accelerations: &[Iv],
+    work: &mut Work,
+) -> Result<(), RowFault>
     requires fits { Fits robot.now state.now }
     requires long { length accelerations.now ≡ column_count robot.now.bodies }
     requires room { IsFor robot.now work.old }

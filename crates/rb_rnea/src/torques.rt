@@ -52,7 +52,14 @@ fn torque_at(robot: &Robot, i: u32, k: usize, work: &Work) -> Result<Iv, NumFaul
 
 // One more body: its joint may follow that of body i.
 #[tactic(auto, unfolding(crate::specs::Torques::add_follower))]
-fn with_follower(robot: &Robot, i: u32, k: usize, j: u32, sum: Iv, work: &Work) -> Result<Iv, NumFault>
+fn with_follower(
+    robot: &Robot,
+    i: u32,
+    k: usize,
+    j: u32,
+    sum: Iv,
+    work: &Work,
+) -> Result<Iv, NumFault>
     requires room { work.now.bodies ≡ length robot.now.bodies }
     requires there { HasBody robot.now j }
     requires column { k < 6 }
