@@ -1,4 +1,6 @@
-ghost use Rattle.std.specs.Prelude.{◌≡◌, length, OnOk, IfErr};
+ghost use Rattle.std.specs.Prelude.{◌≡◌, length, replicate, OnOk, IfErr};
+ghost use Rattle.rb_num.specs.Interval.{zero_interval};
+ghost use Rattle.rb_tree.specs.declared.sizes.TheConstants.{MAX_COLUMNS};
 ghost use Rattle.rb_sweep.specs.Sweep.{Answers};
 ghost use Rattle.rb_tree.specs.Columns.{column_count};
 ghost use Rattle.rb_tree.specs.State.{Fits};
@@ -84,6 +86,34 @@ pub fn rnea(robot: &Robot, state: &State, work: &mut Work) -> Result<(), RowFaul
     dynamics(robot, state, state.accelerations(), work)
 }
 
+const COLUMNS: usize = MAX_COLUMNS as usize;
+
+// Zero for each column that there may be.
+fn no_accelerations() -> [Iv; COLUMNS]
+    ensures { result ≡ replicate MAX_COLUMNS zero_interval }
+{
+    [Iv::ZERO; COLUMNS]
+}
+
+// The values of a row whose accelerations are these zeros.
+fn unaccelerated_row(
+    robot: &Robot,
+    state: &State,
+    zeros: &[Iv],
+    work: &mut Work,
+) -> Result<(), RowFault>
+    requires fits { Fits robot.now state.now }
+    requires zeros { zeros.now ≡ replicate (length state.now.a) zero_interval }
+    requires room { IsFor robot.now work.old }
+    ensures values { OnOk result (AreDynamics robot.now (unaccelerated state.now) work.new) }
+    ensures refused { IfErr result (IsRefused robot.now (unaccelerated state.now)) }
+    ensures answer { Answers result (answer_of robot.now (unaccelerated state.now)) (torques_in robot.now work.new) }
+    ensures encloses { OnOk result (EnclosesDynamics robot.now (unaccelerated state.now) work.new) }
+    ensures others { work.new ≡ record work.old { q = work.new.q; X = work.new.X; s = work.new.s; v = work.new.v; c = work.new.c; a = work.new.a; b = work.new.b; f = work.new.f; t = work.new.t; T = work.new.T } }
+{
+    dynamics(robot, state, zeros, work)
+}
+
 /// The torques that hold a row's speeds at its position, under its gravity, without accelerations: `rnea` with zero for each acceleration.
 pub fn bias(robot: &Robot, state: &State, work: &mut Work) -> Result<(), RowFault>
     requires fits { Fits robot.now state.now }
@@ -104,7 +134,7 @@ pub fn bias(robot: &Robot, state: &State, work: &mut Work) -> Result<(), RowFaul
     // all else is as it was
     ensures others { work.new ≡ record work.old { q = work.new.q; X = work.new.X; s = work.new.s; v = work.new.v; c = work.new.c; a = work.new.a; b = work.new.b; f = work.new.f; t = work.new.t; T = work.new.T } }
 {
-    let zeros = [Iv::ZERO; MAX_COLUMNS as usize];
+    let zeros = no_accelerations();
     let columns = robot.nv() as usize;
-    dynamics(robot, state, &zeros[..columns], work)
+    unaccelerated_row(robot, state, &zeros[..columns], work)
 }
