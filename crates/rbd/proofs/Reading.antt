@@ -1,12 +1,21 @@
 -- Reading the fields of a row, one at a time.
-use Rattle.std.proofs.Common.{◌≡◌, ◌<◌, ◌≤◌, ◌+◌, ◌-◌, ℕ, List, [], ◌∷◌, ◌++◌, length, drop, take, set, get_or, count_by, refl, arith, ◌∙◌, ap, sym, append_assoc, Result, Ok, Err, length-drop, inl, inr, subst}
-use Rattle.std.proofs.lemmas.List.{append-nil, drop_more, drop_all, take_all, take_more_set}
+use Rattle.std.proofs.Common.{◌≡◌, ◌<◌, ◌≤◌, ◌+◌, ◌-◌, ℕ, zero, suc, List, [], ◌∷◌, ◌++◌, length, drop, take, set, get_or, count_by, refl, arith, ◌∙◌, ap, sym, append_assoc, append-nil, Result, Ok, Err, length-drop, inl, inr, subst}
+use Rattle.std.specs.List.{splice}
+use Rattle.std.proofs.lemmas.List.{drop_more, drop_all, take_more_set, drop-set-lt, take-append-drop, length-set}
 use Rattle.std.proofs.lemmas.Bool.{cases_lt}
 use Rattle.std.proofs.lemmas.List.Sums.{count_by-le-length}
 use Rattle.std.proofs.lemmas.List.Splits.{length-slice_split}
-use Rattle.rb_num.specs.Interval.{Interval}
+use Rattle.rb_result.specs.Steps.{◌>>=◌}
+use Rattle.rb_num.specs.Interval.{Interval, zero_interval}
+use Rattle.std.specs.Prelude.{OnOk, IfErr}
+use Rattle.std.proofs.lemmas.Bool.{eq-eqb}
+use Rattle.rb_frac.specs.Ops.{V3}
+use Rattle.rb_tree.specs.Robot.{Tree}
+use Rattle.rb_tree.specs.State.{Row, Fits, at_place, neutral_under, standard_gravity}
 use Rattle.rbd.specs.declared.field.FieldFault.{FieldFault}
-use Rattle.rbd.specs.Fields.{is_comma, fields, field_of, numbered, before, intervals_of}
+use Rattle.rbd.specs.declared.header.Header.{Header}
+use Rattle.rbd.specs.Fields.{is_comma, fields, field_of, numbered, brackets_of, filled, numbers_of, neutral_numbers, state_of, row_of}
+use Rattle.rbd.proofs.Numbers.{neutral_is, told_by_numbers}
 
 pub fields_counted : (line : List ℕ) → length (fields line) ≡ count_by is_comma line + 1
 fields_counted line = length-slice_split is_comma line
@@ -14,23 +23,71 @@ fields_counted line = length-slice_split is_comma line
 pub commas_few : (line : List ℕ) → count_by is_comma line ≤ length line
 commas_few line = count_by-le-length is_comma line
 
--- intervals that were read before an answer
-abbrev pub ahead : List Interval → Result (List Interval) FieldFault → Result (List Interval) FieldFault
-ahead first (Ok others) = Ok (first ++ others)
-ahead first (Err fault) = Err fault
+-- ---- one field after the other
+-- the numbers, with the brackets of fields put one after the other from this column on, and numbered from this number on
+abbrev pub filled_from : ℕ → ℕ → List Interval → List (List ℕ) → Result (List Interval) FieldFault
+filled_from column number numbers [] = Ok numbers
+filled_from column number numbers (field ∷ others) =
+    numbered number (field_of (at_place numbers column) field) >>= λ bracket. filled_from (column + 1) (number + 1) (set numbers column bracket) others
 
-ahead-before : (first : List Interval) (value : Interval) (answer : Result (List Interval) FieldFault) → ahead first (before (Ok value) answer) ≡ ahead (first ++ value ∷ []) answer
-ahead-before first value (Ok others) = ap Ok (sym (append_assoc first (value ∷ []) others))
-ahead-before first value (Err fault) = refl
+spliced_none : (numbers : List Interval) (column : ℕ) → splice numbers column (column + 0) [] ≡ numbers
+spliced_none numbers column = let e : column + 0 ≡ column = omega arith in rw e (take-append-drop column numbers)
 
-ahead-none : (answer : Result (List Interval) FieldFault) → ahead [] answer ≡ answer
-ahead-none (Ok others) = refl
-ahead-none (Err fault) = refl
+spliced_more : (numbers others : List Interval) (bracket : Interval) (column count : ℕ) → column < length numbers
+    → splice (set numbers column bracket) (column + 1) (column + 1 + count) others ≡ splice numbers column (column + suc count) (bracket ∷ others)
+spliced_more numbers others bracket column count there =
+    let end : column + 1 + count ≡ column + suc count = omega arith in
+    let front = take_more_set numbers column bracket there in
+    let back = drop-set-lt (column + suc count) numbers column bracket (omega arith) in
+    rw (end, front, back) (append_assoc (take column numbers) (bracket ∷ []) (others ++ drop (column + suc count) numbers))
 
+-- the default of the first field, and those of the others
+defaults_more : (numbers : List Interval) (bracket : Interval) (column count : ℕ) → column < length numbers
+    → take (suc count) (drop column numbers) ≡ at_place numbers column ∷ take count (drop (column + 1) (set numbers column bracket))
+defaults_more numbers bracket column count there =
+    rw (drop_more numbers column zero_interval there, drop-set-lt (column + 1) numbers column bracket (omega arith)) refl
+
+-- what follows a first bracket, said in both ways
+then_same : (first : Result Interval FieldFault) (f g : Interval → Result (List Interval) FieldFault) → ((bracket : Interval) → f bracket ≡ g bracket) → (first >>= f) ≡ (first >>= g)
+then_same (Ok bracket) f g same = same bracket
+then_same (Err fault) f g same = refl
+
+then_then : (others : Result (List Interval) FieldFault) (bracket : Interval) (f g : List Interval → List Interval) → ((brackets : List Interval) → f brackets ≡ g (bracket ∷ brackets))
+    → (others >>= λ brackets. Ok (f brackets)) ≡ (others >>= (λ brackets. Ok (bracket ∷ brackets)) >>= λ brackets. Ok (g brackets))
+then_then (Ok brackets) bracket f g same = ap Ok (same brackets)
+then_then (Err fault) bracket f g same = refl
+
+regroup : (first : Result Interval FieldFault) (f : Interval → Result (List Interval) FieldFault) (g : List Interval → Result (List Interval) FieldFault)
+    → (first >>= λ bracket. f bracket >>= g) ≡ (first >>= f >>= g)
+regroup (Ok bracket) f g = refl
+regroup (Err fault) f g = refl
+
+pub filled_all : (column number : ℕ) (numbers : List Interval) (texts : List (List ℕ)) → column + length texts ≤ length numbers
+    → filled_from column number numbers texts ≡ (brackets_of number (take (length texts) (drop column numbers)) texts >>= λ brackets. Ok (splice numbers column (column + length texts) brackets))
+filled_all column number numbers [] there = ap Ok (sym (spliced_none numbers column))
+filled_all column number numbers (text ∷ others) there =
+    let within : column < length numbers = omega arith in
+    let first = numbered number (field_of (at_place numbers column) text) in
+    let end = λ (brackets : List Interval). splice numbers column (column + suc (length others)) brackets in
+    let defaults = drop_more numbers column zero_interval within in
+    let step : (bracket : Interval) → filled_from (column + 1) (number + 1) (set numbers column bracket) others
+    ≡ ((brackets_of (number + 1) (take (length others) (drop (column + 1) numbers)) others >>= λ brackets. Ok (bracket ∷ brackets)) >>= λ brackets. Ok (end brackets))
+    = λ bracket.
+    let long : column + 1 + length others ≤ length (set numbers column bracket) = simp length-set (omega arith) in
+    let later = filled_all (column + 1) (number + 1) (set numbers column bracket) others long in
+    let kept = drop-set-lt (column + 1) numbers column bracket (omega arith) in
+    later
+    ∙ ap (λ (ds : List Interval). brackets_of (number + 1) (take (length others) ds) others >>= λ brackets. Ok (splice (set numbers column bracket) (column + 1) (column + 1 + length others) brackets)) kept
+    ∙ then_then (brackets_of (number + 1) (take (length others) (drop (column + 1) numbers)) others) bracket (λ brackets. splice (set numbers column bracket) (column + 1) (column + 1 + length others) brackets) end
+    (λ brackets. spliced_more numbers brackets bracket column (length others) within) in
+    rw defaults (then_same first _ _ step ∙ regroup first _ _)
+
+-- ---- where the reading stands
 -- what is read and what is left of a line, before the field at an index
-pub record ReadTo (line rest : List ℕ) (joints : List Interval) (index : ℕ) : Type 0 where
-  pub row : ahead (take index joints) (intervals_of (index + 1) (drop index (fields line))) ≡ intervals_of 1 (fields line)
+pub record ReadTo (line rest : List ℕ) (first : ℕ) (old now : List Interval) (index : ℕ) : Type 0 where
+  pub row : filled_from (first + index) (index + 1) now (drop index (fields line)) ≡ filled_from first 1 old (fields line)
   pub left : index < length (fields line) → fields rest ≡ drop index (fields line)
+  pub long : length now ≡ length old
 
 -- what a cut of the first field gives
 pub record FirstField (rest field after : List ℕ) : Type 0 where
@@ -62,33 +119,91 @@ first_left line rest field after index within left cut =
       | inr one ↦ first_of_rest index (fields line) (fields rest) [] field within left (cut.last (omega arith))
     ]
 
--- the answer of all fields, once the next one is cut off
-row_from : (line rest field after : List ℕ) (joints : List Interval) (index : ℕ) → index < length (fields line) → ReadTo line rest joints index → FirstField rest field after → ahead (take index joints) (before (numbered (index + 1) (field_of field)) (intervals_of (index + 1 + 1) (drop (index + 1) (fields line)))) ≡ intervals_of 1 (fields line)
-row_from line rest field after joints index within read cut =
-    let first = first_left line rest field after index within (read.left within) cut in
-    subst (λ (parts : List (List ℕ)). ahead (take index joints) (intervals_of (index + 1) parts) ≡ intervals_of 1 (fields line)) first read.row
-
-row_as : (line field : List ℕ) (joints : List Interval) (index : ℕ) (answer : Result Interval FieldFault) → answer ≡ numbered (index + 1) (field_of field) → ahead (take index joints) (before (numbered (index + 1) (field_of field)) (intervals_of (index + 1 + 1) (drop (index + 1) (fields line)))) ≡ intervals_of 1 (fields line) → ahead (take index joints) (before answer (intervals_of (index + 1 + 1) (drop (index + 1) (fields line)))) ≡ intervals_of 1 (fields line)
-row_as line field joints index answer is row =
-    subst (λ (answer : Result Interval FieldFault). ahead (take index joints) (before answer (intervals_of (index + 1 + 1) (drop (index + 1) (fields line)))) ≡ intervals_of 1 (fields line)) (sym is) row
-
-pub read_more : (line rest field after : List ℕ) (joints : List Interval) (index : ℕ) (value : Interval) → index < length (fields line) → index < length joints → ReadTo line rest joints index → FirstField rest field after → Ok value ≡ numbered (index + 1) (field_of field) → ReadTo line after (set joints index value) (index + 1)
-read_more line rest field after joints index value within place read cut is = record {
-  row = rw (take_more_set joints index value place)
-      (sym (ahead-before (take index joints) value (intervals_of (index + 1 + 1) (drop (index + 1) (fields line))))
-      ∙ row_as line field joints index (Ok value) is (row_from line rest field after joints index within read cut));
-  left = λ more. let count = left_length index (fields line) (fields rest) (read.left within) in
-      others_left index (fields line) (fields rest) (fields after) field within (read.left within) (cut.more (omega arith));
+pub read_none : (line : List ℕ) (first : ℕ) (numbers : List Interval) → ReadTo line line first numbers numbers 0
+read_none line first numbers = record {
+  row = let e : first + 0 ≡ first = omega arith in rw e refl;
+  left = λ _. refl;
+  long = refl;
 }
 
-pub read_fault : (line rest field after : List ℕ) (joints : List Interval) (index : ℕ) (fault : FieldFault) → index < length (fields line) → ReadTo line rest joints index → FirstField rest field after → Err fault ≡ numbered (index + 1) (field_of field) → intervals_of 1 (fields line) ≡ Err fault
-read_fault line rest field after joints index fault within read cut is =
-    sym (row_as line field joints index (Err fault) is (row_from line rest field after joints index within read cut))
+-- the answer of all fields, once the next one is cut off
+module _ (line rest field after : List ℕ) (first : ℕ) (old now : List Interval) (index : ℕ) (within : index < length (fields line)) (read : ReadTo line rest first old now index)
+    (cut : FirstField rest field after) where
+  row_from : (numbered (index + 1) (field_of (at_place now (first + index)) field) >>= λ bracket. filled_from (first + index + 1) (index + 1 + 1) (set now (first + index) bracket) (drop (index + 1) (fields line)))
+      ≡ filled_from first 1 old (fields line)
+  row_from =
+      let at = first_left line rest field after index within (read.left within) cut in
+      subst (λ (parts : List (List ℕ)). filled_from (first + index) (index + 1) now parts ≡ filled_from first 1 old (fields line)) at read.row
 
-pub read_none : (line : List ℕ) (joints : List Interval) → ReadTo line line joints 0
-read_none line joints = record { row = ahead-none (intervals_of 1 (fields line)); left = λ _. refl }
+  pub read_more : (new : List Interval) (bracket : Interval) → numbered (index + 1) (field_of (at_place now (first + index)) field) ≡ Ok bracket → new ≡ set now (first + index) bracket
+      → ReadTo line after first old new (index + 1)
+  read_more new bracket is set_is = record {
+    row =
+        let place : first + (index + 1) ≡ first + index + 1 = omega arith in
+        rw (place, set_is) (rw is at row_from);
+    left = λ more. let count = left_length index (fields line) (fields rest) (read.left within) in
+        others_left index (fields line) (fields rest) (fields after) field within (read.left within) (cut.more (omega arith));
+    long = rw set_is (length-set now (first + index) bracket ∙ read.long);
+  }
 
-pub read_all : (line rest : List ℕ) (joints : List Interval) (index : ℕ) → length (fields line) ≤ index → length joints ≤ index → ReadTo line rest joints index → intervals_of 1 (fields line) ≡ Ok joints
-read_all line rest joints index past all read =
-    let row : ahead (take index joints) (intervals_of (index + 1) (drop index (fields line))) ≡ intervals_of 1 (fields line) = read.row in
-    sym row ∙ rw (take_all index joints all, drop_all index (fields line) past) (ap Ok (append-nil joints))
+  pub read_fault : (fault : FieldFault) → numbered (index + 1) (field_of (at_place now (first + index)) field) ≡ Err fault → filled_from first 1 old (fields line) ≡ Err fault
+  read_fault fault is = sym (rw is at row_from)
+
+-- all fields are read
+pub read_all : (line rest : List ℕ) (header : Header) (old now : List Interval) (index : ℕ) → length (fields line) ≡ header.count → header.first + header.count ≤ length old → header.count ≤ index
+    → ReadTo line rest header.first old now index → filled header old (fields line) ≡ Ok now
+unfolding filled
+read_all line rest header old now index count there past read =
+    let none = drop_all index (fields line) (omega arith) in
+    let row : Ok now ≡ filled_from header.first 1 old (fields line) = rw none at read.row in
+    let all = filled_all header.first 1 old (fields line) (omega arith) in
+    rw (← count) (sym all ∙ sym row)
+
+pub fault_in_all : (line : List ℕ) (header : Header) (old : List Interval) (fault : FieldFault) → length (fields line) ≡ header.count → header.first + header.count ≤ length old
+    → filled_from header.first 1 old (fields line) ≡ Err fault → filled header old (fields line) ≡ Err fault
+unfolding filled
+fault_in_all line header old fault count there is =
+    let all = filled_all header.first 1 old (fields line) (omega arith) in
+    rw (← count) (sym all ∙ is)
+
+-- ---- a row
+on_ok : {T E : Type 0} (r : Result T E) (P Q : Type 0) → OnOk r P → (P → Q) → OnOk r Q
+on_ok (Ok value) P Q h step = step h
+on_ok (Err fault) P Q h step = h
+
+pub neutral_gravity : (gravity : V3 Interval) (tree : Tree) → (neutral_under gravity tree).gravity ≡ gravity
+unfolding neutral_under
+neutral_gravity gravity tree = refl
+
+-- a state that was made neutral keeps its gravity
+pub gravity_kept : (tree : Tree) (old new : Row) → old.gravity ≡ standard_gravity → new ≡ neutral_under old.gravity tree → new.gravity ≡ standard_gravity
+gravity_kept tree old new gravity is = ap (λ (row : Row). row.gravity) is ∙ neutral_gravity old.gravity tree ∙ gravity
+
+row_filled : (tree : Tree) (header : Header) (line : List ℕ) (row : Row) → length (fields line) ≡ header.count → filled header (neutral_numbers tree) (fields line) ≡ Ok (numbers_of row)
+    → row ≡ state_of tree (numbers_of row) → row_of tree header line ≡ Ok row
+unfolding row_of
+row_filled tree header line row count is told = rw (eq-eqb _ _ count, is) (ap Ok (sym told))
+
+-- the row is told by the numbers that were read
+pub row_told : {T E : Type 0} (r : Result T E) (tree : Tree) (header : Header) (line : List ℕ) (old neutral row : Row) → length (fields line) ≡ header.count → old.gravity ≡ standard_gravity
+    → neutral ≡ neutral_under old.gravity tree → Fits tree row → row.gravity ≡ neutral.gravity
+    → OnOk r (filled header (numbers_of neutral) (fields line) ≡ Ok (numbers_of row)) → OnOk r (row_of tree header line ≡ Ok row)
+row_told r tree header line old neutral row count gravity is fits kept read =
+    let first : neutral ≡ neutral_under standard_gravity tree = is ∙ ap (λ g. neutral_under g tree) gravity in
+    let standard : row.gravity ≡ standard_gravity = kept ∙ gravity_kept tree old neutral gravity is in
+    on_ok r _ _ read (λ filled_is. row_filled tree header line row count (ap (λ ns. filled header ns (fields line)) (sym (neutral_is tree neutral first)) ∙ filled_is) (told_by_numbers tree row fits standard))
+
+row_fails : (tree : Tree) (header : Header) (line : List ℕ) (fault : FieldFault) → length (fields line) ≡ header.count → filled header (neutral_numbers tree) (fields line) ≡ Err fault → row_of tree header line ≡ Err fault
+unfolding row_of
+row_fails tree header line fault count is = rw (eq-eqb _ _ count, is) refl
+
+on_err : {T E : Type 0} (r : Result T E) (P Q : E → Type 0) → IfErr r P → ((e : E) → P e → Q e) → IfErr r Q
+on_err (Ok value) P Q h step = h
+on_err (Err fault) P Q h step = step fault h
+
+-- or is refused as they are
+pub row_refused : {T : Type 0} (r : Result T FieldFault) (tree : Tree) (header : Header) (line : List ℕ) (old neutral : Row) → length (fields line) ≡ header.count → old.gravity ≡ standard_gravity
+    → neutral ≡ neutral_under old.gravity tree → IfErr r (λ fault. filled header (numbers_of neutral) (fields line) ≡ Err fault) → IfErr r (λ fault. row_of tree header line ≡ Err fault)
+row_refused r tree header line old neutral count gravity is read =
+    let first : neutral ≡ neutral_under standard_gravity tree = is ∙ ap (λ g. neutral_under g tree) gravity in
+    on_err r _ _ read (λ fault failed. row_fails tree header line fault count (ap (λ ns. filled header ns (fields line)) (sym (neutral_is tree neutral first)) ∙ failed))

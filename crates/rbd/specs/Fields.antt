@@ -1,37 +1,29 @@
--- The header, and the fields of a row.
-use Rattle.std.specs.Prelude.{ℕ, ◌+◌, ◌==◌, pos, List, [], ◌∷◌, ◌++◌, Bool, if◌then◌else◌, length, map, codes, Result, Ok, Err}
-use Rattle.std.specs.List.{slice_split, join_with_byte}
-use Rattle.rb_num.specs.Interval.{Interval, interval}
+-- The fields of a row, and the state that they tell.
+use Rattle.std.specs.Prelude.{◌≡◌, ◌≤◌, ℕ, ◌+◌, ◌==◌, List, [], ◌∷◌, ◌++◌, Bool, if◌then◌else◌, length, take, drop, Result, Ok, Err}
+use Rattle.std.specs.List.{slice_split, splice}
+use Rattle.rb_result.specs.Steps.{◌>>=◌}
+use Rattle.rb_num.specs.Interval.{Interval}
 use Rattle.rb_text.specs.Bracket.{bracket_of}
 use Rattle.rb_text.specs.declared.bracket.TextFault.{TextFault}
 use Rattle.rb_text.specs.declared.bracket.TextFault.TheVariants as text
-use Rattle.rbd.specs.declared.chain.Slider.{Slider}
+use Rattle.rb_tree.specs.Columns.{column_count, entry_count}
+use Rattle.rb_tree.specs.Robot.{Tree}
+use Rattle.rb_tree.specs.State.{Row, neutral_under, standard_gravity}
 use Rattle.rbd.specs.declared.field.FieldFault.{FieldFault}
 use Rattle.rbd.specs.declared.field.FieldKind.{FieldKind}
 use Rattle.rbd.specs.declared.field.FieldKind.TheVariants.{Count, NotNumber, Backwards, TooLarge}
-use Rattle.rbd.specs.Chain.{Links}
+use Rattle.rbd.specs.declared.header.Header.{Header}
 
--- the column of a slider's acceleration
-abbrev pub column_of : Slider → List ℕ
-column_of slider = codes "a." ++ slider.name
-
--- a comma and the column behind it
-abbrev pub next_column_of : Slider → List ℕ
-next_column_of slider = 44 ∷ column_of slider
-
--- the columns of the sliders, with a comma between each two
-unfoldable pub header_of : Links → List ℕ
-header_of chain = join_with_byte 44 (map column_of chain.sliders)
-
-abbrev pub field_fault : FieldKind → ℕ → FieldFault
-field_fault kind number = record { kind = kind; field = number }
-
+-- ---- fields
 abbrev pub is_comma : ℕ → Bool
 is_comma byte = byte == 44
 
--- the fields of a line: it is cut at each comma
+-- a line is cut at each comma
 abbrev pub fields : List ℕ → List (List ℕ)
 fields line = slice_split is_comma line
+
+abbrev pub field_fault : FieldKind → ℕ → FieldFault
+field_fault kind number = record { kind = kind; field = number }
 
 -- the kind of a field whose text has this fault
 abbrev pub kind_of : TextFault → FieldKind
@@ -39,28 +31,62 @@ kind_of text.NotNumber = NotNumber
 kind_of text.TooLarge = TooLarge
 kind_of text.Backwards = Backwards
 
--- the answer of a field that has this number
+-- the answer of the field of this number
 abbrev pub numbered : ℕ → Result Interval TextFault → Result Interval FieldFault
 numbered number (Ok interval) = Ok interval
 numbered number (Err fault) = Err (field_fault (kind_of fault) number)
 
--- the interval of a field: 0 where it is empty
-abbrev pub field_of : List ℕ → Result Interval TextFault
-field_of [] = Ok (interval (pos 0) (pos 0))
-field_of (byte ∷ bytes) = bracket_of (byte ∷ bytes)
+-- the bracket of a field: where it is empty, the default
+abbrev pub field_of : Interval → List ℕ → Result Interval TextFault
+field_of default [] = Ok default
+field_of default (byte ∷ bytes) = bracket_of (byte ∷ bytes)
 
--- an interval before others, or the first fault
-abbrev pub before : Result Interval FieldFault → Result (List Interval) FieldFault → Result (List Interval) FieldFault
-before (Ok first) (Ok others) = Ok (first ∷ others)
-before (Ok first) (Err fault) = Err fault
-before (Err fault) _ = Err fault
+-- the brackets of fields that are numbered from this number on, each with its default, or the first fault
+abbrev pub brackets_of : ℕ → List Interval → List (List ℕ) → Result (List Interval) FieldFault
+brackets_of number (default ∷ defaults) (field ∷ others) =
+    numbered number (field_of default field) >>= λ bracket. brackets_of (number + 1) defaults others >>= λ brackets. Ok (bracket ∷ brackets)
+brackets_of number defaults others = Ok []
 
--- the intervals of fields that are numbered from this number on, or the first fault
-abbrev pub intervals_of : ℕ → List (List ℕ) → Result (List Interval) FieldFault
-intervals_of number [] = Ok []
-intervals_of number (field ∷ others) = before (numbered number (field_of field)) (intervals_of (number + 1) others)
+-- ---- states
+-- the numbers of a state in the order of its columns
+abbrev pub numbers_of : Row → List Interval
+numbers_of row = row.q ++ row.v ++ row.a ++ row.tau
 
--- the intervals of a row for this number of sliders, one for each, or what is wrong with it
-unfoldable pub row_of : ℕ → List ℕ → Result (List Interval) FieldFault
-row_of sliders line =
-    if length (fields line) == sliders then intervals_of 1 (fields line) else Err (field_fault Count (length (fields line)))
+-- the state with these numbers, under standard gravity
+unfoldable pub state_of : Tree → List Interval → Row
+state_of tree numbers =
+    let entries = entry_count tree.bodies in
+    let columns = column_count tree.bodies in
+    record {
+      q = take entries numbers;
+      v = take columns (drop entries numbers);
+      a = take columns (drop (entries + columns) numbers);
+      tau = take columns (drop (entries + columns + columns) numbers);
+      gravity = standard_gravity;
+    }
+
+abbrev pub neutral_numbers : Tree → List Interval
+neutral_numbers tree = numbers_of (neutral_under standard_gravity tree)
+
+-- so many entries, and so many columns
+pub record HasSizes (row : Row) (entries columns : ℕ) : Type 0 where
+  pub q : length row.q ≡ entries
+  pub v : length row.v ≡ columns
+  pub a : length row.a ≡ columns
+  pub tau : length row.tau ≡ columns
+
+-- the header names columns of the tree
+abbrev pub IsWithin : Tree → Header → Type 0
+IsWithin tree header = header.first + header.count ≤ entry_count tree.bodies + column_count tree.bodies + column_count tree.bodies + column_count tree.bodies
+
+-- ---- rows
+-- the numbers, with the brackets of fields in the columns of the header, each of which an empty field leaves as it is; or the first fault
+unfoldable pub filled : Header → List Interval → List (List ℕ) → Result (List Interval) FieldFault
+filled header numbers fields =
+    brackets_of 1 (take header.count (drop header.first numbers)) fields >>= λ brackets. Ok (splice numbers header.first (header.first + header.count) brackets)
+
+-- the state that a row line tells, neutral where it tells nothing; or what is wrong with the line
+unfoldable pub row_of : Tree → Header → List ℕ → Result Row FieldFault
+row_of tree header line =
+    if length (fields line) == header.count then (filled header (neutral_numbers tree) (fields line) >>= λ numbers. Ok (state_of tree numbers))
+    else Err (field_fault Count (length (fields line)))

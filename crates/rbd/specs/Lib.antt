@@ -1,21 +1,17 @@
--- Read `Flat` first, the equations of a chain, and `Headline`, what is said of each answered row. `Course` is what a run does with its words and
--- bytes, of the steps in `Form` (with the law `FormLaw`), `Cut`, `Fields`, `Dynamics`, `Answer`, `Codes` and `Ends`. `Stops` says when a run stops. The
--- rest is scaffolding.
-pub mod Answer
-pub mod Chain
+-- Read `Headline` first, what the lines of a run mean, and `Run`, how a run ends. `Course` is what a run answers and puts: it goes by its `Plan`,
+-- the robot that its `Words` name, and the rows give the `Inputs`, of the steps in `Cut`, `Columns` and `Fields`, to which it `Answer`s line by line.
+-- `Ends` has the status and the line on standard error, `Codes` the exit status.
+pub mod Words
+pub mod Plan
 pub mod Cut
+pub mod Columns
 pub mod Fields
-pub mod Flat
-pub mod Form
-pub mod Dynamics
-pub mod Codes
-pub mod Course
+pub mod Inputs
+pub mod Answer
 pub mod Stops
+pub mod Desk
+pub mod Course
 pub mod Ends
+pub mod Codes
+pub mod Run
 pub mod Headline
-pub mod Rules
-pub mod Fault
-pub mod Sweep
-pub mod Work
-pub mod Inside
-pub mod FormLaw

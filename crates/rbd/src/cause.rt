@@ -1,9 +1,9 @@
 //! Why a row has no answer.
 
-use crate::fault::RowFault;
 use crate::field::FieldFault;
+use rb_work::RowFault;
 
-/// Why a row has no answer: its fields are wrong, or a number on the way to its answer is too large.
+/// Why a row has no answer: a field of it is wrong, or a quantity on the way to its answer is refused.
 #[derive(Clone, Copy, Debug, PartialEq, Eq)]
 pub enum Cause {
     Field(FieldFault),

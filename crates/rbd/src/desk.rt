@@ -1,88 +1,90 @@
 //! The buffers in which rows are answered, one after the other.
-ghost use Rattle.std.specs.Prelude.{◌≡◌, ◌≤◌, ◌+◌, length, OnOk, IfOk, IfErr, Ok, Err, Bool};
-ghost use Rattle.rbd.specs.Answer.{line_of};
-ghost use Rattle.rbd.specs.Course.{answer_of, is_refused};
+ghost use Rattle.std.specs.Prelude.{◌≡◌, ◌≤◌, ◌+◌, length, OnOk, IfOk, IfErr, Ok, Err};
+ghost use Rattle.rb_tree.specs.Columns.{column_count};
+ghost use Rattle.rbd.specs.Answer.{answer_to, is_refused, line_of};
+ghost use Rattle.rbd.specs.Desk.{IsDeskOf};
+ghost use Rattle.rbd.specs.Fields.{row_of, IsWithin};
+ghost use Rattle.rb_tree.specs.Places.{IsFor};
+ghost use Rattle.rb_rnea.specs.Dynamics.{torques_in};
 
 use crate::cause::Cause;
-use crate::chain::Chain;
-use crate::dynamics::inverse_dynamics;
-use crate::line::put_line;
-use crate::row::read_row;
-use crate::work::Work;
-use rb_num::Iv;
+use crate::fields::read_row;
+use crate::header::Header;
+use crate::line::{put_answered, put_refused};
+use rb_rnea::rnea;
 use rb_text::Out;
+use rb_tree::{Robot, State};
+use rb_work::Work;
 use std::alloc::{AllocError, Global};
 
-/// No line of a row of at most 64 sliders is longer.
-const LINE_ROOM: usize = 5268;
-
-/// Room for the brackets, the quantities and the line of one row of a chain.
+/// Room for the state, the quantities and the line of one row of a robot.
 #[derive(Drop)]
 pub(crate) struct Desk {
-    sliders: usize,
-    joints: Vec<Iv>,
-    work: Work,
-    line: Out,
-    ghost few: { sliders ≤ 64 },
-    ghost a_joint_each: { length joints.items ≡ sliders },
-    ghost a_body_each: { work.bodies ≡ sliders + 1 },
-    ghost room: { 5268 ≤ line.spare + length line.bytes },
+    pub(crate) state: State,
+    pub(crate) work: Work,
+    pub(crate) line: Out,
+}
+
+/// A work for the rows of a robot, without rows of constraints.
+fn work_for(alloc: Global, robot: &Robot) -> Result<Work, AllocError>
+    ensures { IfOk result (IsFor robot.now) }
+{
+    Work::new(alloc, robot.bodies(), robot.full(), robot.ups(), 0)
 }
 
 impl Desk {
-    /// A desk for the rows of a chain. Its one refusal is for want of memory; nothing later takes any.
-    pub(crate) fn new(alloc: Global, chain: &Chain) -> Result<Desk, AllocError>
-        ensures { IfOk result (λ desk. desk.sliders ≡ length chain.now.sliders) }
+    /// A desk for the rows of a robot. Its one refusal is for want of memory; nothing later takes any.
+    pub(crate) fn new(alloc: Global, robot: &Robot) -> Result<Desk, AllocError>
+        ensures { IfOk result (IsDeskOf robot.now) }
     {
-        let sliders = chain.sliders().len();
-        Ok(Desk {
-            sliders,
-            joints: vec![in alloc; Iv::ZERO; sliders]?,
-            work: Work::new(alloc, sliders + 1)?,
-            line: Out::with_room(alloc, LINE_ROOM)?,
-        })
+        let state = State::new(alloc, robot)?;
+        let work = work_for(alloc, robot)?;
+        let line = Out::with_room(alloc, 81 * robot.nv() as usize + 200)?;
+        Ok(Desk { state, work, line })
     }
 
     /// Answers a row: its torques are then in the work.
-    #[tactic(auto, unfolding(crate::specs::Course::answer_of))]
-    fn answer(&mut self, chain: &Chain, row: &[u8]) -> Result<(), Cause>
-        requires fits { self.old.sliders ≡ length chain.now.sliders }
+    fn answer(&mut self, robot: &Robot, header: Header, row: &[u8]) -> Result<(), Cause>
+        requires desk { IsDeskOf robot.now self.old }
+        requires within { IsWithin robot.now header }
         requires short { length row.now ≤ 65536 }
-        ensures ok { OnOk result (answer_of chain.now row.now ≡ Ok self.new.work.torques) }
-        ensures err { IfErr result (λ cause. answer_of chain.now row.now ≡ Err cause) }
-        ensures sliders { self.new.sliders ≡ self.old.sliders }
+        ensures ok { OnOk result (answer_to robot.now (row_of robot.now header row.now) ≡ Ok (torques_in robot.now self.new.work)) }
+        ensures err { IfErr result (λ cause. answer_to robot.now (row_of robot.now header row.now) ≡ Err cause) }
+        ensures desk { IsDeskOf robot.now self.new }
     {
-        if let Err(fault) = read_row(row, &mut self.joints) {
+        if let Err(fault) = read_row(robot, header, row, &mut self.state) {
             return Err(Cause::Field(fault));
         }
-        match inverse_dynamics(chain, &self.joints, &mut self.work) {
+        match rnea(robot, &self.state, &mut self.work) {
             Ok(()) => Ok(()),
             Err(fault) => Err(Cause::Refused(fault)),
         }
     }
 
     /// Makes the line of a row, and tells whether the row is refused.
-    pub(crate) fn make_line(&mut self, chain: &Chain, number: u64, row: &[u8]) -> bool
-        requires fits { self.old.sliders ≡ length chain.now.sliders }
+    pub(crate) fn make_line(
+        &mut self,
+        robot: &Robot,
+        header: Header,
+        number: u64,
+        row: &[u8],
+    ) -> bool
+        requires desk { IsDeskOf robot.now self.old }
+        requires within { IsWithin robot.now header }
         requires short { length row.now ≤ 65536 }
-        ensures bytes { self.new.line.bytes ≡ line_of number (length chain.now.sliders) (answer_of chain.now row.now) }
-        ensures refused { result ≡ is_refused (answer_of chain.now row.now) }
-        ensures sliders { self.new.sliders ≡ self.old.sliders }
+        ensures bytes { self.new.line.bytes ≡ line_of number (column_count robot.now.bodies) (answer_to robot.now (row_of robot.now header row.now)) }
+        ensures refused { result ≡ is_refused (answer_to robot.now (row_of robot.now header row.now)) }
+        ensures desk { IsDeskOf robot.now self.new }
     {
-        let answer = self.answer(chain, row);
+        let answer = self.answer(robot, header, row);
         self.line.clear();
         match answer {
             Ok(()) => {
-                put_line(
-                    number,
-                    self.sliders,
-                    Ok(self.work.torques()),
-                    &mut self.line,
-                );
+                put_answered(robot, number, &self.work, &mut self.line);
                 false
             }
             Err(cause) => {
-                put_line(number, self.sliders, Err(cause), &mut self.line);
+                put_refused(robot, number, cause, &mut self.line);
                 true
             }
         }

@@ -1,34 +1,24 @@
 //! The status and the line on standard error of an answer.
-ghost use Rattle.std.specs.Prelude.{◌≤◌, ◌+◌, ◌++◌, ◌∷◌, [], length, codes, decimal, ◌≡◌, ◌↔◌, ◌⊎◌, Bool, IsTrue, Result, Ok, Err};
-ghost use Rattle.rbd.specs.Stops.{is_plain};
-ghost use Rattle.rbd.specs.Ends.{status_of, is_answer, text_of, tag_fault_text};
+ghost use Rattle.std.specs.Prelude.{◌≡◌, ◌≤◌, ◌+◌, ◌++◌, ◌∷◌, [], length, codes, decimal, Result, Ok, Err};
+ghost use Rattle.rb_tree.specs.Faults.{kind_word as tree_word_of, fault_text as tree_text};
+ghost use Rattle.rbd.specs.Ends.{status_of, usage_text, in_urdf, robot_text, rows_text, stop_text, text_of};
 
 use crate::line::put_number;
 use crate::status::Status;
-use crate::stop::Stop;
-use rb_tags::TagFault;
+use crate::stop::{RobotFault, RowsFault, Stop, UsageFault};
 use rb_text::Out;
+use rb_tree::{TreeFault, TreeKind};
 
 /// The status of an answer.
 pub(crate) fn status(answer: &Result<bool, Stop>) -> Status
-    ensures exact { result ≡ status_of answer.now }
-    ensures plain { is_answer result ≡ is_plain answer.now }
-    ensures input { result ≡ Status.InputFault → answer.now ≡ Err Stop.Input }
-    ensures output { result ≡ Status.OutputFault → answer.now ≡ Err Stop.Output }
-    ensures memory { result ≡ Status.Memory → answer.now ≡ Err Stop.Memory }
-    ensures cases { IsTrue (is_answer result) ⊎ (result ≡ Status.InputFault) ⊎ (result ≡ Status.OutputFault) ⊎ (result ≡ Status.Memory) }
-    ensures usage { (result ≡ Status.Usage) ↔ (answer.now ≡ Err Stop.Usage) }
+    ensures { result ≡ status_of answer.now }
 {
     match answer {
         Ok(false) => Status::Done,
         Ok(true) => Status::Refused,
-        Err(Stop::Usage) => Status::Usage,
-        Err(Stop::BadTags(_)) => Status::Robot,
-        Err(Stop::Unbuilt) => Status::Robot,
-        Err(Stop::LongFile) => Status::Robot,
-        Err(Stop::BadHeader) => Status::Rows,
-        Err(Stop::LongLine(_)) => Status::Rows,
-        Err(Stop::LongRows) => Status::Rows,
+        Err(Stop::Usage(_)) => Status::Usage,
+        Err(Stop::Robot(_)) => Status::Robot,
+        Err(Stop::Rows(_)) => Status::Rows,
         Err(Stop::Input) => Status::InputFault,
         Err(Stop::Output) => Status::OutputFault,
         Err(Stop::Memory) => Status::Memory,
@@ -43,45 +33,112 @@ pub(crate) fn no_memory() -> &'static [u8]
     b"rbd: no memory\n"
 }
 
-#[tactic(auto, using(std::proofs::Common::append_assoc))]
-fn put_long_line(row: u64, line: &mut Out)
-    requires { 80 ≤ line.old.spare }
-    ensures { line.new.bytes ≡ line.old.bytes ++ (codes "rbd: rows: LineTooLong at row " ++ decimal row ++ 10 ∷ []) }
+fn usage_word(fault: UsageFault) -> &'static [u8]
+    ensures word { result.now ≡ usage_text fault }
+    ensures short { length result.now ≤ 12 }
 {
-    line.put(b"rbd: rows: LineTooLong at row ");
-    put_number(row, line);
-    line.put(b"\n");
+    match fault {
+        UsageFault::Words => b"usage: words",
+        UsageFault::Root => b"usage: root",
+    }
 }
 
-#[tactic(auto, using(std::proofs::Common::append_assoc), unfolding(crate::specs::Ends::tag_fault_text))]
-fn put_tag_fault(fault: TagFault, line: &mut Out)
-    requires { 80 ≤ line.old.spare }
-    ensures { line.new.bytes ≡ line.old.bytes ++ tag_fault_text fault }
+fn tree_word(kind: TreeKind) -> &'static [u8]
+    ensures word { result.now ≡ tree_word_of kind }
+    ensures short { length result.now ≤ 14 }
 {
-    line.put(b"rbd: urdf: ");
-    line.put(fault.kind.word().as_bytes());
+    kind.word().as_bytes()
+}
+
+// Puts a word and a place of the robot's file.
+#[tactic(auto, using(std::proofs::Common::append_assoc), unfolding(crate::specs::Ends::in_urdf))]
+fn put_placed(word: &[u8], place: u64, line: &mut Out)
+    requires short { length word.now ≤ 20 }
+    requires room { 50 ≤ line.old.spare }
+    ensures bytes { line.new.bytes ≡ line.old.bytes ++ in_urdf (word.now ++ codes " at " ++ decimal place) }
+    ensures spare { line.old.spare ≤ line.new.spare + 50 }
+{
+    line.put(b"urdf: ");
+    line.put(word);
+    line.put(b" at ");
+    put_number(place, line);
+}
+
+// Puts a fault of the tree: its file, its word and its place.
+#[tactic(auto, using(std::proofs::Common::append_assoc))]
+fn put_tree_fault(fault: TreeFault, line: &mut Out)
+    requires { 50 ≤ line.old.spare }
+    ensures bytes { line.new.bytes ≡ line.old.bytes ++ tree_text fault }
+    ensures spare { line.old.spare ≤ line.new.spare + 50 }
+{
+    line.put(fault.file.word().as_bytes());
+    line.put(b": ");
+    line.put(tree_word(fault.kind));
     line.put(b" at ");
     put_number(fault.at, line);
-    line.put(b"\n");
+}
+
+#[tactic(auto, unfolding(crate::specs::Ends::in_urdf))]
+fn put_robot_fault(fault: &RobotFault, line: &mut Out)
+    requires { 60 ≤ line.old.spare }
+    ensures bytes { line.new.bytes ≡ line.old.bytes ++ robot_text fault.now }
+    ensures spare { line.old.spare ≤ line.new.spare + 60 }
+{
+    match fault {
+        RobotFault::TooLong => line.put(b"urdf: TooLong"),
+        RobotFault::Tags(fault) => put_placed(fault.kind.word().as_bytes(), fault.at, line),
+        RobotFault::Urdf(fault) => put_placed(fault.kind.word().as_bytes(), fault.at, line),
+        RobotFault::Tree(fault) => put_tree_fault(*fault, line),
+        RobotFault::Name(place) => put_placed(b"Unbuilt", *place, line),
+    }
+}
+
+#[tactic(auto, using(std::proofs::Common::append_assoc))]
+fn put_long_line(row: u64, line: &mut Out)
+    requires { 60 ≤ line.old.spare }
+    ensures bytes { line.new.bytes ≡ line.old.bytes ++ (codes "rows: LineTooLong at row " ++ decimal row) }
+    ensures spare { line.old.spare ≤ line.new.spare + 60 }
+{
+    line.put(b"rows: LineTooLong at row ");
+    put_number(row, line);
+}
+
+fn put_rows_fault(fault: &RowsFault, line: &mut Out)
+    requires { 60 ≤ line.old.spare }
+    ensures bytes { line.new.bytes ≡ line.old.bytes ++ rows_text fault.now }
+    ensures spare { line.old.spare ≤ line.new.spare + 60 }
+{
+    match fault {
+        RowsFault::TooLong => line.put(b"rows: TooLong"),
+        RowsFault::BadHeader => line.put(b"rows: BadHeader at field 0"),
+        RowsFault::LineTooLong(row) => put_long_line(*row, line),
+    }
+}
+
+fn put_stop(stop: &Stop, line: &mut Out)
+    requires { 60 ≤ line.old.spare }
+    ensures bytes { line.new.bytes ≡ line.old.bytes ++ stop_text stop.now }
+    ensures spare { line.old.spare ≤ line.new.spare + 60 }
+{
+    match stop {
+        Stop::Usage(fault) => line.put(usage_word(*fault)),
+        Stop::Robot(fault) => put_robot_fault(fault, line),
+        Stop::Rows(fault) => put_rows_fault(fault, line),
+        Stop::Input => line.put(b"input failed"),
+        Stop::Output => line.put(b"output failed"),
+        Stop::Memory => line.put(b"no memory"),
+    }
 }
 
 /// Puts the line of an answer for standard error.
-#[tactic(auto, unfolding(crate::specs::Ends::text_of))]
+#[tactic(auto, using(std::proofs::Common::append_assoc), unfolding(crate::specs::Ends::text_of))]
 pub(crate) fn put_text(answer: &Result<bool, Stop>, line: &mut Out)
     requires { 80 ≤ line.old.spare }
     ensures { line.new.bytes ≡ line.old.bytes ++ text_of answer.now }
 {
-    match answer {
-        Ok(_) => {}
-        Err(Stop::Usage) => line.put(b"rbd: usage: words\n"),
-        Err(Stop::BadTags(fault)) => put_tag_fault(*fault, line),
-        Err(Stop::Unbuilt) => line.put(b"rbd: urdf: Unbuilt at 0\n"),
-        Err(Stop::LongFile) => line.put(b"rbd: urdf: TooLong\n"),
-        Err(Stop::BadHeader) => line.put(b"rbd: rows: BadHeader at field 0\n"),
-        Err(Stop::LongLine(row)) => put_long_line(*row, line),
-        Err(Stop::LongRows) => line.put(b"rbd: rows: TooLong\n"),
-        Err(Stop::Input) => line.put(b"rbd: input failed\n"),
-        Err(Stop::Output) => line.put(b"rbd: output failed\n"),
-        Err(Stop::Memory) => line.put(b"rbd: no memory\n"),
+    if let Err(stop) = answer {
+        line.put(b"rbd: ");
+        put_stop(stop, line);
+        line.put(b"\n");
     }
 }

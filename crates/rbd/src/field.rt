@@ -3,7 +3,7 @@
 /// What is wrong with a field, or with their number.
 #[derive(Clone, Copy, Debug, PartialEq, Eq)]
 pub enum FieldKind {
-    /// There are more or fewer fields than sliders.
+    /// There are more or fewer fields than the header has.
     Count,
     /// A field is not empty and is not a number.
     NotNumber,

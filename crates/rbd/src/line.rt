@@ -1,31 +1,19 @@
 //! The lines of the output.
-ghost use Rattle.std.specs.Prelude.{◌≡◌, ◌≤◌, ◌+◌, ◌∷◌, ◌++◌, Result, Ok, Err, length, replicate, flat_map, decimal, IfOk, ◌*◌};
-ghost use Rattle.std.specs.Result.{ForOk, result_map_both};
+ghost use Rattle.std.specs.Prelude.{◌≡◌, ◌≤◌, ◌+◌, ◌*◌, ◌∷◌, ◌++◌, Result, Ok, Err, length, replicate, flat_map, decimal};
 ghost use Rattle.rb_num.specs.Interval.{Interval};
-ghost use Rattle.rbd.specs.Answer.{first_line as first_line_of, letter_of, kind_text, index_text, name_text, fault_text, cause_text, value_text, line_of, line_room};
+ghost use Rattle.rb_tree.specs.Columns.{column_count};
+ghost use Rattle.rb_tree.specs.Places.{IsFor};
+ghost use Rattle.rb_work.specs.Names.{word_of, second_of, text_of};
+ghost use Rattle.rb_rnea.specs.Dynamics.{torques_in};
+ghost use Rattle.rbd.specs.Answer.{kind_text, index_text, fault_text, refusal_text, cause_text, value_text, line_of, line_room};
 
 use crate::cause::Cause;
-use crate::chain::Chain;
-use crate::fault::{Name, Quantity, RowFault};
 use crate::field::{FieldFault, FieldKind};
 use itoa::Buffer;
 use rb_num::Iv;
 use rb_text::Out;
-use std::alloc::{AllocError, Global};
-
-/// The first line of the output, with its LF: it names the columns. Its one refusal is for want of memory.
-#[tactic(auto, using(crate::proofs::Texts::columns_more, std::proofs::Common::append_assoc), unfolding(crate::specs::Answer::first_line))]
-pub fn first_line(alloc: Global, chain: &Chain) -> Result<Vec<u8>, AllocError>
-    ensures { IfOk result (λ line. line.items ≡ first_line_of chain.now) }
-{
-    let mut line = Vec::from_slice(alloc, b"row,answer,cause")?;
-    for slider in chain.sliders() {
-        line.extend_from_slice(b",tau.")?;
-        line.extend_from_slice(slider.name.as_str().as_bytes())?;
-    }
-    line.push(b'\n')?;
-    Ok(line)
-}
+use rb_tree::Robot;
+use rb_work::{Name, NameKind, RowFault, Work};
 
 /// Puts a number in digits.
 pub fn put_number(number: u64, out: &mut Out)
@@ -51,27 +39,39 @@ fn put_index(number: u32, out: &mut Out)
     out.put(b"]");
 }
 
-fn letter(quantity: Quantity) -> u8
-    ensures { result ≡ letter_of quantity }
+fn name_word(kind: NameKind) -> &'static [u8]
+    ensures word { result.now ≡ word_of kind }
+    ensures short { length result.now ≤ 3 }
 {
-    match quantity {
-        Quantity::Acceleration => b'a',
-        Quantity::NeededForce => b'b',
-        Quantity::JointForce => b'f',
-        Quantity::Torque => b't',
+    kind.word().as_bytes()
+}
+
+// Puts the second number of a name behind a point, where there is one.
+fn put_second(j: u32, out: &mut Out)
+    requires { 21 ≤ out.old.spare }
+    ensures bytes { out.new.bytes ≡ out.old.bytes ++ second_of j }
+    ensures spare { out.new.spare + length (second_of j) ≡ out.old.spare }
+    ensures short { length (second_of j) ≤ 21 }
+{
+    if j != 0 {
+        out.put(b".");
+        put_number(u64::from(j), out);
     }
 }
 
-// Puts the name of a quantity of a body, as in `a[4]`.
-#[tactic(auto, using(std::proofs::Common::append_assoc), unfolding(crate::specs::Answer::name_text))]
+// Puts the name of a quantity, as in `a[4]`.
+#[tactic(auto, using(std::proofs::Common::append_assoc))]
 fn put_name(name: Name, out: &mut Out)
-    requires { 23 ≤ out.old.spare }
-    ensures bytes { out.new.bytes ≡ out.old.bytes ++ name_text name }
-    ensures spare { out.new.spare + length (name_text name) ≡ out.old.spare }
-    ensures short { length (name_text name) ≤ 23 }
+    requires { 46 ≤ out.old.spare }
+    ensures bytes { out.new.bytes ≡ out.old.bytes ++ text_of name }
+    ensures spare { out.new.spare + length (text_of name) ≡ out.old.spare }
+    ensures short { length (text_of name) ≤ 46 }
 {
-    out.put(&[letter(name.quantity)]);
-    put_index(name.body, out);
+    out.put(name_word(name.kind));
+    out.put(b"[");
+    put_number(u64::from(name.i), out);
+    put_second(name.j, out);
+    out.put(b"]");
 }
 
 fn kind_word(kind: FieldKind) -> &'static [u8]
@@ -98,23 +98,50 @@ fn put_fault(fault: FieldFault, out: &mut Out)
     put_index(fault.field, out);
 }
 
-// Puts the answer and the cause of a row that is refused.
+// Puts the answer and the name of what is refused, and of a pivot its interval.
+#[tactic(auto, using(std::proofs::Common::append_assoc), unfolding(crate::specs::Answer::refusal_text))]
+fn put_refusal(fault: RowFault, out: &mut Out)
+    requires { 136 ≤ out.old.spare }
+    ensures bytes { out.new.bytes ≡ out.old.bytes ++ refusal_text fault }
+    ensures spare { out.new.spare + length (refusal_text fault) ≡ out.old.spare }
+    ensures short { length (refusal_text fault) ≤ 136 }
+{
+    match fault {
+        RowFault::Size { name } => {
+            out.put(b"size,");
+            put_name(name, out);
+        }
+        RowFault::Range { name } => {
+            out.put(b"range,");
+            put_name(name, out);
+        }
+        RowFault::NotUnit { name } => {
+            out.put(b"notunit,");
+            put_name(name, out);
+        }
+        RowFault::Pivot { name, iv } => {
+            out.put(b"pivot,");
+            put_name(name, out);
+            out.put(b"=");
+            out.put_iv(iv);
+        }
+    }
+}
+
+// Puts the answer and the cause of a row that has none.
 #[tactic(auto, using(std::proofs::Common::append_assoc), unfolding(crate::specs::Answer::cause_text))]
 fn put_cause(cause: Cause, out: &mut Out)
-    requires { 37 ≤ out.old.spare }
+    requires { 136 ≤ out.old.spare }
     ensures bytes { out.new.bytes ≡ out.old.bytes ++ cause_text cause }
     ensures spare { out.new.spare + length (cause_text cause) ≡ out.old.spare }
-    ensures short { length (cause_text cause) ≤ 37 }
+    ensures short { length (cause_text cause) ≤ 136 }
 {
     match cause {
         Cause::Field(fault) => {
             out.put(b"field,");
             put_fault(fault, out);
         }
-        Cause::Refused(RowFault::Size { name }) => {
-            out.put(b"size,");
-            put_name(name, out);
-        }
+        Cause::Refused(fault) => put_refusal(fault, out),
     }
 }
 
@@ -141,147 +168,91 @@ fn put_value(value: Iv, out: &mut Out)
     out.put_iv(value);
 }
 
-// Puts intervals, each behind its comma.
-#[tactic(auto, using(crate::proofs::Texts::values_more, crate::proofs::Texts::values_longer))]
-fn put_values(values: &[Iv], out: &mut Out)
-    requires { 81 * length values.now ≤ out.old.spare }
-    ensures bytes { out.new.bytes ≡ out.old.bytes ++ flat_map value_text values.now }
-    ensures spare { out.new.spare + length (flat_map value_text values.now) ≡ out.old.spare }
-    ensures short { length (flat_map value_text values.now) ≤ 81 * length values.now }
+// Puts the torques of the columns, each behind its comma.
+fn put_torques(robot: &Robot, work: &Work, out: &mut Out)
+    requires made { IsFor robot.now work.now }
+    requires room { 81 * column_count robot.now.bodies ≤ out.old.spare }
+    ensures bytes { out.new.bytes ≡ out.old.bytes ++ flat_map value_text (torques_in robot.now work.now) }
+    ensures spare { out.new.spare + length (flat_map value_text (torques_in robot.now work.now)) ≡ out.old.spare }
+    ensures short { length (flat_map value_text (torques_in robot.now work.now)) ≤ 81 * column_count robot.now.bodies }
 {
-    for value in values {
-        put_value(*value, out);
+    for c in 1..robot.nv() + 1 {
+        put_value(work.torque(c), out);
     }
 }
 
-// Puts the line of a row that is answered.
+/// Puts the line of the row of this number, which is answered, with its LF.
 #[tactic(auto, using(std::proofs::Common::append_assoc), unfolding(crate::specs::Answer::line_of))]
-fn put_answered(number: u64, torques: &[Iv], out: &mut Out)
-    requires { line_room (length torques.now) ≤ out.old.spare }
-    ensures bytes { out.new.bytes ≡ out.old.bytes ++ line_of number (length torques.now) (Ok torques.now) }
-    ensures spare { out.new.spare + length (line_of number (length torques.now) (Ok torques.now)) ≡ out.old.spare }
+pub(crate) fn put_answered(robot: &Robot, number: u64, work: &Work, out: &mut Out)
+    requires made { IsFor robot.now work.now }
+    requires room { line_room (column_count robot.now.bodies) ≤ out.old.spare }
+    ensures bytes { out.new.bytes ≡ out.old.bytes ++ line_of number (column_count robot.now.bodies) (Ok (torques_in robot.now work.now)) }
+    ensures spare { out.new.spare + length (line_of number (column_count robot.now.bodies) (Ok (torques_in robot.now work.now))) ≡ out.old.spare }
 {
     put_number(number, out);
     out.put(b",ok,");
-    put_values(torques, out);
+    put_torques(robot, work, out);
     out.put(b"\n");
 }
 
-// Puts the line of a row that is refused.
+/// Puts the line of the row of this number, which has no answer, with its LF: an empty field for each column.
 #[tactic(auto, using(std::proofs::Common::append_assoc), unfolding(crate::specs::Answer::line_of))]
-fn put_refused(number: u64, sliders: usize, cause: Cause, out: &mut Out)
-    requires { line_room sliders ≤ out.old.spare }
-    ensures bytes { out.new.bytes ≡ out.old.bytes ++ line_of number sliders (Err cause) }
-    ensures spare { out.new.spare + length (line_of number sliders (Err cause)) ≡ out.old.spare }
+pub(crate) fn put_refused(robot: &Robot, number: u64, cause: Cause, out: &mut Out)
+    requires { line_room (column_count robot.now.bodies) ≤ out.old.spare }
+    ensures bytes { out.new.bytes ≡ out.old.bytes ++ line_of number (column_count robot.now.bodies) (Err cause) }
+    ensures spare { out.new.spare + length (line_of number (column_count robot.now.bodies) (Err cause)) ≡ out.old.spare }
 {
     put_number(number, out);
     out.put(b",");
     put_cause(cause, out);
-    put_commas(sliders, out);
+    put_commas(robot.nv() as usize, out);
     out.put(b"\n");
-}
-
-/// Puts the line of the row of this number, with its LF: one field more for each slider, be they empty.
-pub fn put_line(number: u64, sliders: usize, answer: Result<&[Iv], Cause>, out: &mut Out)
-    requires each { ForOk answer (λ torques. length torques.now ≡ sliders) }
-    requires room { line_room sliders ≤ out.old.spare }
-    ensures bytes { let answered = result_map_both (λ torques. torques.now) (λ cause. cause) answer.entry in
-        out.new.bytes ≡ out.old.bytes ++ line_of number sliders answered }
-    ensures spare { let answered = result_map_both (λ torques. torques.now) (λ cause. cause) answer.entry in
-        out.new.spare + length (line_of number sliders answered) ≡ out.old.spare }
-{
-    match answer {
-        Ok(torques) => put_answered(number, torques, out),
-        Err(cause) => put_refused(number, sliders, cause, out),
-    }
 }
 
 #[cfg(test)]
 mod tests {
     use super::*;
-    use crate::chain::{Axis, Slider};
-    use crate::row::is_header;
-    use rb_tags::Text;
     use std::test::Fail;
 
-    fn slider(alloc: Global, name: &str) -> Result<Slider, AllocError> {
-        Ok(Slider {
-            name: Text::copy(alloc, name)?,
-            axis: Axis::X,
-            mass: Iv::ONE,
-        })
-    }
-
     #[test]
-    fn names_columns(rt: HostRuntime) -> Result<(), Fail> {
-        let alloc = rt.alloc();
-        let sliders = vec![in alloc; slider(alloc, "one")?, slider(alloc, "b_2")?]?;
-        let chain = Chain::new(Iv::ZERO, sliders);
-        assert!(rt; is_header(&chain, b"a.one,a.b_2"));
-        assert!(rt; !is_header(&chain, b"a.one"));
-        assert!(rt; !is_header(&chain, b"a.b_2,a.one"));
-        let line = first_line(alloc, &chain)?;
-        assert_eq!(rt;
-            line.as_slice(),
-            b"row,answer,cause,tau.one,tau.b_2\n".as_slice()
-        );
-        Ok(())
-    }
-
-    fn size(quantity: Quantity, body: u32) -> Cause {
-        Cause::Refused(RowFault::Size {
-            name: Name { quantity, body },
-        })
-    }
-
-    fn field(kind: FieldKind, field: u32) -> Cause {
-        Cause::Field(FieldFault { kind, field })
-    }
-
-    #[test]
-    fn puts_refused_rows(rt: HostRuntime) -> Result<(), Fail> {
-        let lines = [
+    fn puts_causes(rt: HostRuntime) -> Result<(), Fail> {
+        let body = Name::one(NameKind::b, 2);
+        let columns = Name::two(NameKind::L, 13, 4);
+        let count = FieldFault {
+            kind: FieldKind::Count,
+            field: 65_537,
+        };
+        let backwards = FieldFault {
+            kind: FieldKind::Backwards,
+            field: 2,
+        };
+        let causes = [
             (
-                1,
-                size(Quantity::Acceleration, 4),
-                b"1,size,a[4],,,\n".as_slice(),
+                Cause::Refused(RowFault::Size { name: body }),
+                b"size,b[2]".as_slice(),
             ),
             (
-                2,
-                size(Quantity::NeededForce, 2),
-                b"2,size,b[2],,,\n".as_slice(),
+                Cause::Refused(RowFault::Range { name: body }),
+                b"range,b[2]",
             ),
             (
-                3,
-                size(Quantity::JointForce, 1),
-                b"3,size,f[1],,,\n".as_slice(),
-            ),
-            (4, size(Quantity::Torque, 3), b"4,size,t[3],,,\n".as_slice()),
-            (
-                12,
-                field(FieldKind::NotNumber, 3),
-                b"12,field,NotNumber[3],,,\n".as_slice(),
+                Cause::Refused(RowFault::NotUnit { name: columns }),
+                b"notunit,L[13.4]",
             ),
             (
-                13,
-                field(FieldKind::TooLarge, 1),
-                b"13,field,TooLarge[1],,,\n".as_slice(),
+                Cause::Refused(RowFault::Pivot {
+                    name: body,
+                    iv: Iv::ZERO,
+                }),
+                b"pivot,b[2]=0.000000000000..0.000000000000",
             ),
-            (
-                13,
-                field(FieldKind::Backwards, 2),
-                b"13,field,Backwards[2],,,\n".as_slice(),
-            ),
-            (
-                14,
-                field(FieldKind::Count, 65537),
-                b"14,field,Count[65537],,,\n".as_slice(),
-            ),
+            (Cause::Field(count), b"field,Count[65537]"),
+            (Cause::Field(backwards), b"field,Backwards[2]"),
         ];
-        for (number, cause, line) in lines {
-            let mut out = Out::with_room(rt.alloc(), 327)?;
-            put_line(number, 3, Err(cause), &mut out);
-            assert_eq!(rt; out.bytes(), line);
+        for (cause, text) in causes {
+            let mut out = Out::with_room(rt.alloc(), 136)?;
+            put_cause(cause, &mut out);
+            assert_eq!(rt; out.bytes(), text);
         }
         Ok(())
     }

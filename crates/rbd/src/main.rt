@@ -2,26 +2,22 @@
 #![tactic(auto)]
 
 mod cause;
-mod chain;
+mod columns;
 mod desk;
-mod dynamics;
 mod ends;
-mod fault;
 mod field;
-mod form;
+mod fields;
+mod header;
 mod line;
 mod lines;
 mod read;
-mod row;
 mod rows;
 mod run;
 mod status;
 mod stop;
 #[cfg(test)]
 mod tests;
-mod vector;
 mod words;
-mod work;
 
 use rb_io::{FileInputs, StdSink};
 use run::run;

@@ -1,133 +1,170 @@
 //! Reading the robot's file and the rows whole.
-ghost use Rattle.std.specs.Prelude.{◌≡◌, ◌≤◌, ◌<◌, ◌^◌, ◌⊎◌, IsTrue, length, codes, IfOk, IfErr, MatchResult, Result, Ok, Err};
-ghost use Rattle.rbd.specs.Course.{robot_of, rows_within, rows_of, most_file, most_line, most_rows};
-ghost use Rattle.rbd.specs.Cut.{lines_of};
-ghost use Rattle.rbd.specs.Stops.{is_plain, is_plain_stop, is_file_stop, Causes, IsRobotStep, IsRowsStep, stop_of_tags, stop_of_form, stop_of_file};
+ghost use Rattle.std.specs.Prelude.{◌≡◌, ◌≤◌, ◌<◌, IsTrue, IsErrOf, length, codes, find, option_map, Option, Some, None, IfOk, IfErr, Result, Ok, Err};
+ghost use Rattle.rb_io.specs.Outside.{Rose};
+ghost use Rattle.rbd.specs.Plan.{is_plain, odd_link, odd_joint, earlier, odd_name, urdf_in, IsRobotOf, IsRefused, most_file};
+ghost use Rattle.rbd.specs.Inputs.{most_rows};
+ghost use Rattle.rbd.specs.Stops.{IfFault, IfRefused, file_stop};
 
-use crate::chain::Chain;
-use crate::form::{FormFault, chain_from};
-use crate::lines::next_line;
-use crate::row::is_header;
-use crate::stop::Stop;
+use crate::stop::{ReadStop, Refusal, RobotFault, RowsFault};
 use rb_io::{Bytes, FileFault, Inputs, read_all};
-use rb_tags::{TagFault, TagKind, read_tags};
+use rb_tags::{RootKind, TagKind, read_tags};
+use rb_tree::{Robot, TreeKind};
+use rb_urdf::{UrdfFaultKind, UrdfJoint, UrdfLink, UrdfRobot, read_urdf};
 use std::alloc::Global;
 
 /// The most bytes of a robot's file.
 pub(crate) const MOST_FILE: u64 = 8_388_608;
 
-/// The most bytes of a line, without its LF.
-pub(crate) const MOST_LINE: usize = 65_536;
-
 /// The most bytes of the rows.
 pub(crate) const MOST_ROWS: u64 = 1 << 40;
 
-/// The stop for a fault of a robot's tags.
-#[tactic(auto, unfolding(crate::specs::Stops::stop_of_tags))]
-fn stop_of_tags(fault: TagFault) -> Stop
-    ensures { result ≡ stop_of_tags fault }
-{
-    match fault.kind {
-        TagKind::Memory => Stop::Memory,
-        _ => Stop::BadTags(fault),
-    }
-}
-
-/// The stop for tags that hold no chain.
-#[tactic(auto, unfolding(crate::specs::Stops::stop_of_form))]
-fn stop_of_form(fault: FormFault) -> Stop
-    ensures { result ≡ stop_of_form fault }
-{
-    match fault {
-        FormFault::Unbuilt => Stop::Unbuilt,
-        FormFault::Memory => Stop::Memory,
-    }
-}
-
 /// The stop for a fault of reading a name whole, where `long` is that of a name that holds too much.
-#[tactic(auto, unfolding(crate::specs::Stops::stop_of_file))]
-fn stop_of_file(fault: FileFault, long: Stop) -> Stop
-    ensures { result ≡ stop_of_file fault long }
+fn file_stop<F: Copy>(fault: FileFault, long: F) -> ReadStop<F>
+    ensures { result ≡ file_stop fault long }
 {
     match fault {
-        FileFault::TooLong => long,
-        FileFault::Failed => Stop::Input,
-        FileFault::Memory => Stop::Memory,
+        FileFault::TooLong => ReadStop::Fault(long),
+        FileFault::Failed => ReadStop::Input,
+        FileFault::Memory => ReadStop::Memory,
     }
 }
 
-/// The chain that a file's bytes hold.
-#[tactic(auto, using(crate::proofs::Stopping::tags_stop_only), unfolding(crate::specs::Course::robot_of))]
-fn chain_of_bytes(alloc: Global, bytes: &[u8]) -> Result<Chain, Stop>
+/// Whether a name has no bytes but letters, digits and `_`.
+fn is_plain(name: &[u8]) -> bool
+    ensures { result ≡ is_plain name.now }
+{
+    name.iter()
+        .all(|byte| byte.is_ascii_alphanumeric() || *byte == b'_')
+}
+
+/// The first link whose name has another byte.
+fn odd_link(links: &[UrdfLink]) -> Option<u64>
+    ensures { result ≡ option_map (λ link. link.place) (find odd_link links.now) }
+{
+    let link = links
+        .iter()
+        .find(|link| !is_plain(link.name.as_str().as_bytes()))?;
+    Some(link.place)
+}
+
+/// The first joint whose name has another byte.
+fn odd_joint(joints: &[UrdfJoint]) -> Option<u64>
+    ensures { result ≡ option_map (λ joint. joint.place) (find odd_joint joints.now) }
+{
+    let joint = joints
+        .iter()
+        .find(|joint| !is_plain(joint.name.as_str().as_bytes()))?;
+    Some(joint.place)
+}
+
+/// The lesser of two places, where they are there.
+fn earlier(first: Option<u64>, second: Option<u64>) -> Option<u64>
+    ensures { result ≡ earlier first second }
+{
+    match (first, second) {
+        (Some(first), Some(second)) => Some(first.min(second)),
+        (None, second) => second,
+        (first, None) => first,
+    }
+}
+
+/// The place of the first link or joint whose name has another byte.
+#[tactic(auto, unfolding(crate::specs::Plan::odd_name))]
+fn odd_name(urdf: &UrdfRobot) -> Option<u64>
+    ensures { result ≡ odd_name urdf.now }
+{
+    earlier(
+        odd_link(urdf.links().as_slice()),
+        odd_joint(urdf.joints().as_slice()),
+    )
+}
+
+/// The links and joints that a file's bytes hold.
+#[tactic(auto, unfolding(crate::specs::Plan::urdf_in))]
+fn urdf_of_bytes(alloc: Global, bytes: &[u8]) -> Result<UrdfRobot, Refusal<RobotFault>>
     requires { length bytes.now ≤ most_file }
-    ensures ok { IfOk result (λ chain. robot_of bytes.now ≡ Ok chain) }
-    ensures err { IfErr result (λ stop. (stop ≡ Stop.Memory) ⊎ (robot_of bytes.now ≡ Err stop)) }
-    ensures only { IfErr result (λ stop. IsTrue (is_file_stop stop)) }
+    ensures ok { IfOk result (λ urdf. urdf_in bytes.now ≡ Ok urdf) }
+    ensures err { IfErr result (IfRefused (λ fault. urdf_in bytes.now ≡ Err fault)) }
 {
     let tags = match read_tags(alloc, bytes) {
         Ok(tags) => tags,
-        Err(fault) => return Err(stop_of_tags(fault)),
+        Err(fault) if fault.kind == TagKind::Memory => return Err(Refusal::Memory),
+        Err(fault) => return Err(Refusal::Fault(RobotFault::Tags(fault))),
     };
-    match chain_from(alloc, &tags) {
-        Ok(chain) => Ok(chain),
-        Err(fault) => Err(stop_of_form(fault)),
+    match read_urdf(alloc, &tags) {
+        Ok(urdf) => Ok(urdf),
+        Err(fault) if fault.kind == UrdfFaultKind::Memory => Err(Refusal::Memory),
+        Err(fault) => Err(Refusal::Fault(RobotFault::Urdf(fault))),
     }
 }
 
-/// Reads the chain of a robot's file.
-#[tactic(auto, unfolding(crate::specs::Course::robot_of))]
-pub(crate) fn read_chain<I: Inputs>(
+/// The robot that a file's bytes hold, with this kind of root.
+fn robot_of_bytes(
+    alloc: Global,
+    bytes: &[u8],
+    root: Option<RootKind>,
+) -> Result<Robot, Refusal<RobotFault>>
+    requires { length bytes.now ≤ most_file }
+    ensures ok { IfOk result (IsRobotOf root bytes.now) }
+    ensures err { IfErr result (IfRefused (IsRefused root bytes.now)) }
+{
+    let urdf = match urdf_of_bytes(alloc, bytes) {
+        Ok(urdf) => urdf,
+        Err(refusal) => return Err(refusal),
+    };
+    let robot = match Robot::build(alloc, &urdf, root) {
+        Ok(robot) => robot,
+        Err(fault) if fault.kind == TreeKind::Memory => return Err(Refusal::Memory),
+        Err(fault) => return Err(Refusal::Fault(RobotFault::Tree(fault))),
+    };
+    let _bodies = robot.bodies();
+    match odd_name(&urdf) {
+        None => Ok(robot),
+        Some(place) => Err(Refusal::Fault(RobotFault::Name(place))),
+    }
+}
+
+/// Reads the robot of a file.
+pub(crate) fn read_robot<I: Inputs>(
     alloc: Global,
     inputs: &mut I,
     name: &str,
-) -> Result<Chain, Stop>
+    root: Option<RootKind>,
+) -> Result<Robot, ReadStop<RobotFault>>
     ensures tells { I.tells inputs.new ≡ I.tells inputs.old }
     ensures holds { I.holds inputs.new ≡ I.holds inputs.old }
-    ensures exact { IsTrue (I.tells inputs.old) → IfOk result (λ chain. robot_of (I.holds inputs.old name.now) ≡ Ok chain) }
-    ensures stopped { IsTrue (I.tells inputs.old) → IfErr result (λ stop. IsTrue (is_plain_stop stop) → robot_of (I.holds inputs.old name.now) ≡ Err stop) }
-    ensures long { result ≡ Err Stop.LongFile → most_file < I.given inputs.new }
-    ensures input { Causes Stop.Input (I.faults inputs.old) (I.faults inputs.new) result }
-    ensures stops { IsRobotStep result }
+    ensures robot { IsTrue (I.tells inputs.old) → IfOk result (IsRobotOf root (I.holds inputs.old name.now)) }
+    ensures refused { IsTrue (I.tells inputs.old) → IfErr result (IfFault (IsRefused root (I.holds inputs.old name.now))) }
+    ensures long { IsErrOf result (ReadStop.Fault RobotFault.TooLong) → most_file < I.given inputs.new }
+    ensures rose { IsErrOf result ReadStop.Input → Rose (I.faults inputs.old) (I.faults inputs.new) }
+    ensures kept { ¬ (IsErrOf result ReadStop.Input) → I.faults inputs.new ≡ I.faults inputs.old }
 {
-    match read_all(alloc, inputs, name, MOST_FILE) {
-        Ok(bytes) => chain_of_bytes(alloc, bytes.as_slice()),
-        Err(fault) => Err(stop_of_file(fault, Stop::LongFile)),
+    let bytes = match read_all(alloc, inputs, name, MOST_FILE) {
+        Ok(bytes) => bytes,
+        Err(fault) => return Err(file_stop(fault, RobotFault::TooLong)),
+    };
+    match robot_of_bytes(alloc, bytes.as_slice(), root) {
+        Ok(robot) => Ok(robot),
+        Err(Refusal::Fault(fault)) => Err(ReadStop::Fault(fault)),
+        Err(Refusal::Memory) => Err(ReadStop::Memory),
     }
 }
 
 /// Reads the rows.
-#[tactic(auto, unfolding(crate::specs::Course::rows_within))]
-pub(crate) fn read_rows<I: Inputs>(alloc: Global, inputs: &mut I) -> Result<Bytes, Stop>
-    ensures exact { IsTrue (I.tells inputs.old) → IfOk result (λ bytes. rows_within (I.holds inputs.old (codes "-")) ≡ Ok bytes) }
+pub(crate) fn read_rows<I: Inputs>(
+    alloc: Global,
+    inputs: &mut I,
+) -> Result<Bytes, ReadStop<RowsFault>>
+    ensures bytes { IsTrue (I.tells inputs.old) → IfOk result (λ bytes. bytes ≡ I.holds inputs.old (codes "-")) }
     ensures within { IfOk result (λ bytes. length bytes ≤ most_rows) }
-    ensures long { result ≡ Err Stop.LongRows → most_rows < I.given inputs.new }
-    ensures stopped { IsTrue (I.tells inputs.old) → IfErr result (λ stop. IsTrue (is_plain_stop stop)
-        → rows_within (I.holds inputs.old (codes "-")) ≡ Err stop) }
-    ensures input { Causes Stop.Input (I.faults inputs.old) (I.faults inputs.new) result }
-    ensures stops { IsRowsStep result }
+    ensures refused { IfErr result (IfFault (λ fault. fault ≡ RowsFault.TooLong)) }
+    ensures longer { IsTrue (I.tells inputs.old) → IsErrOf result (ReadStop.Fault RowsFault.TooLong) → most_rows < length (I.holds inputs.old (codes "-")) }
+    ensures long { IsErrOf result (ReadStop.Fault RowsFault.TooLong) → most_rows < I.given inputs.new }
+    ensures rose { IsErrOf result ReadStop.Input → Rose (I.faults inputs.old) (I.faults inputs.new) }
+    ensures kept { ¬ (IsErrOf result ReadStop.Input) → I.faults inputs.new ≡ I.faults inputs.old }
 {
     match read_all(alloc, inputs, "-", MOST_ROWS) {
         Ok(bytes) => Ok(bytes),
-        Err(fault) => Err(stop_of_file(fault, Stop::LongRows)),
+        Err(fault) => Err(file_stop(fault, RowsFault::TooLong)),
     }
-}
-
-/// What is behind the header.
-#[tactic(auto, unfolding(crate::specs::Course::rows_of))]
-pub(crate) fn behind_header<'a>(chain: &Chain, bytes: &'a [u8]) -> Result<&'a [u8], Stop>
-    ensures ok { IfOk result (λ rest. rows_of chain.now bytes.now ≡ Ok (lines_of rest.now)) }
-    ensures shorter { IfOk result (λ rest. length rest.now ≤ length bytes.now) }
-    ensures err { IfErr result (λ stop. rows_of chain.now bytes.now ≡ Err stop) }
-    ensures only { IfErr result (λ stop. (stop ≡ Stop.BadHeader) ⊎ (stop ≡ Stop.LongLine 0)) }
-{
-    let Some(header) = next_line(bytes) else {
-        return Err(Stop::BadHeader);
-    };
-    if header.size > MOST_LINE {
-        return Err(Stop::LongLine(0));
-    }
-    if !is_header(chain, header.content) {
-        return Err(Stop::BadHeader);
-    }
-    Ok(header.rest)
 }

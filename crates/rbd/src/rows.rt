@@ -1,120 +1,187 @@
 //! Answering the rows of an input, line by line.
-ghost use Rattle.std.specs.Prelude.{◌≡◌, ◌≤◌, ◌<◌, ◌+◌, ◌^◌, ◌++◌, Bool, false, IsTrue, length, IfOk, IfErr, OnOk, Result, Ok, Err};
+ghost use Rattle.std.specs.Prelude.{◌≡◌, ◌≤◌, ◌++◌, ◌⊎◌, IsTrue, IsErrOf, length, IfOk, IfErr, OnOk, Ok, Err};
 ghost use Rattle.rb_io.specs.Outside.{Rose};
 ghost use Rattle.rb_io.specs.Calls.{PutsPart};
-ghost use Rattle.rbd.specs.Answer.{line_of, first_line as first_line_of};
-ghost use Rattle.rbd.specs.Course.{answer_of, is_refused, rows_bytes, rows_answer, rows_of, course_of_rows, most_rows};
+ghost use Rattle.rb_result.specs.Steps.{told_as};
+ghost use Rattle.rb_tree.specs.Columns.{column_count};
+ghost use Rattle.rbd.specs.Answer.{answer_to, is_refused, line_of};
+ghost use Rattle.rbd.specs.Columns.{first_line as first_line_of};
+ghost use Rattle.rbd.specs.Course.{course_behind, course_of_rows};
 ghost use Rattle.rbd.specs.Cut.{lines_of};
-ghost use Rattle.rbd.specs.Stops.{is_plain, Causes, IsLineStep};
+ghost use Rattle.rbd.specs.Desk.{IsDeskOf};
+ghost use Rattle.rbd.specs.Fields.{row_of, IsWithin};
+ghost use Rattle.rbd.specs.Inputs.{most_rows, rows as rows_in, rows_of_lines};
+ghost use Rattle.rbd.specs.Run.{stream, Follows};
+ghost use Rattle.rbd.specs.Stops.{stop_of_rows};
 
-use crate::chain::Chain;
+use crate::columns::{first_line, header_of};
 use crate::desk::Desk;
-use crate::line::first_line;
+use crate::header::Header;
 use crate::lines::next_line;
-use crate::read::{MOST_LINE, behind_header};
-use crate::stop::Stop;
+use crate::stop::{RowsFault, RowsStop};
 use rb_io::{Sink, put_all};
+use rb_tree::Robot;
 use std::alloc::Global;
+
+/// The most bytes of a line, without its LF.
+pub(crate) const MOST_LINE: usize = 65_536;
+
+/// Puts bytes.
+fn put<O: Sink>(bytes: &[u8], out: &mut O) -> Result<(), RowsStop>
+    ensures tells { IsTrue (O.tells out.new) → IsTrue (O.tells out.old) }
+    ensures whole { IsTrue (O.tells out.new) → OnOk result (O.put out.new ≡ O.put out.old ++ bytes.now) }
+    ensures part { IsTrue (O.tells out.new) → PutsPart (O.put out.old) (O.put out.new) bytes.now }
+    ensures only { IfErr result (λ stop. stop ≡ RowsStop.Output) }
+    ensures rose { IsErrOf result RowsStop.Output → Rose (O.faults out.old) (O.faults out.new) }
+    ensures kept { ¬ (IsErrOf result RowsStop.Output) → O.faults out.new ≡ O.faults out.old }
+{
+    match put_all(out, bytes) {
+        Ok(()) => Ok(()),
+        Err(_) => Err(RowsStop::Output),
+    }
+}
 
 /// Puts the line of a row, and tells whether the row is refused.
 #[tactic(auto, using(rb_io::proofs::Parts::part_whole))]
 fn put_row<O: Sink>(
-    chain: &Chain,
+    robot: &Robot,
+    header: Header,
     number: u64,
     row: &[u8],
     desk: &mut Desk,
     out: &mut O,
-) -> Result<bool, Stop>
-    requires fits { desk.old.sliders ≡ length chain.now.sliders }
+) -> Result<bool, RowsStop>
+    requires desk { IsDeskOf robot.now desk.old }
+    requires within { IsWithin robot.now header }
     requires short { length row.now ≤ 65536 }
-    ensures desk { desk.new.sliders ≡ desk.old.sliders }
+    ensures desk { IsDeskOf robot.now desk.new }
     ensures tells { IsTrue (O.tells out.new) → IsTrue (O.tells out.old) }
-    ensures refused { IfOk result (λ refused. refused ≡ is_refused (answer_of chain.now row.now)) }
-    ensures whole { IsTrue (O.tells out.new) → OnOk result (O.put out.new ≡ O.put out.old ++ line_of number (length chain.now.sliders) (answer_of chain.now row.now)) }
-    ensures part { IsTrue (O.tells out.new) → PutsPart (O.put out.old) (O.put out.new) (line_of number (length chain.now.sliders) (answer_of chain.now row.now)) }
-    ensures only { IfErr result (λ stop. stop ≡ Stop.Output) }
-    ensures output { Causes Stop.Output (O.faults out.old) (O.faults out.new) result }
+    ensures refused { IfOk result (λ refused. refused ≡ is_refused (answer_to robot.now (row_of robot.now header row.now))) }
+    ensures whole { IsTrue (O.tells out.new) → OnOk result (O.put out.new ≡ O.put out.old ++ line_of number (column_count robot.now.bodies) (answer_to robot.now (row_of robot.now header row.now))) }
+    ensures part { IsTrue (O.tells out.new) → PutsPart (O.put out.old) (O.put out.new) (line_of number (column_count robot.now.bodies) (answer_to robot.now (row_of robot.now header row.now))) }
+    ensures only { IfErr result (λ stop. stop ≡ RowsStop.Output) }
+    ensures rose { IsErrOf result RowsStop.Output → Rose (O.faults out.old) (O.faults out.new) }
+    ensures kept { ¬ (IsErrOf result RowsStop.Output) → O.faults out.new ≡ O.faults out.old }
 {
-    let refused = desk.make_line(chain, number, row);
-    if put_all(out, desk.line()).is_err() {
-        return Err(Stop::Output);
-    }
+    let refused = desk.make_line(robot, header, number, row);
+    put(desk.line(), out)?;
     Ok(refused)
 }
 
 /// Puts the line of each row, up to the first that is too long. Tells whether a row is refused.
-#[tactic(auto, using(rb_io::proofs::Parts::part_so_far, rb_io::proofs::Parts::part_more, rb_io::proofs::Parts::puts_more, rb_io::proofs::Parts::puts_none, rb_io::proofs::Parts::part_none, crate::proofs::EachRow::rows_bytes_short))]
-fn put_rows<O: Sink>(chain: &Chain, rows: &[u8], desk: &mut Desk, out: &mut O) -> Result<bool, Stop>
-    requires fits { desk.old.sliders ≡ length chain.now.sliders }
+fn put_rows<O: Sink>(
+    robot: &Robot,
+    header: Header,
+    rows: &[u8],
+    desk: &mut Desk,
+    out: &mut O,
+) -> Result<bool, RowsStop>
+    requires desk { IsDeskOf robot.now desk.old }
+    requires within { IsWithin robot.now header }
     requires short { length rows.now ≤ most_rows }
     ensures tells { IsTrue (O.tells out.new) → IsTrue (O.tells out.old) }
-    ensures answer { IsTrue (is_plain result) → result ≡ rows_answer chain.now 1 false (lines_of rows.now) }
-    ensures whole { IsTrue (O.tells out.new) → IsTrue (is_plain result) → O.put out.new ≡ O.put out.old ++ rows_bytes chain.now 1 (lines_of rows.now) }
-    ensures part { IsTrue (O.tells out.new) → PutsPart (O.put out.old) (O.put out.new) (rows_bytes chain.now 1 (lines_of rows.now)) }
-    ensures output { Causes Stop.Output (O.faults out.old) (O.faults out.new) result }
-    ensures stops { IsLineStep result }
+    ensures follows { Follows (course_behind robot.now (rows_in header (lines_of rows.now))) (stream O.tells O.put O.faults out.old out.new) (told_as stop_of_rows result) }
+    ensures rose { IsErrOf result RowsStop.Output → Rose (O.faults out.old) (O.faults out.new) }
+    ensures kept { ¬ (IsErrOf result RowsStop.Output) → O.faults out.new ≡ O.faults out.old }
 {
     let mut bad = false;
     let mut number: u64 = 1;
     let mut rest = rows;
     'rows: while let Some(row) = next_line(rest) {
         if row.size > MOST_LINE {
-            return Err(Stop::LongLine(number));
+            return Err(RowsStop::Fault(RowsFault::LineTooLong(number)));
         }
-        bad |= put_row(chain, number, row.content, desk, out)?;
+        bad |= match put_row(robot, header, number, row.content, desk, out) {
+            Ok(refused) => refused,
+            Err(stop) => return Err(stop),
+        };
         rest = row.rest;
         number += 1;
     }
     Ok(bad)
 }
 
-/// Puts the first line.
-fn put_first<O: Sink>(line: &[u8], out: &mut O) -> Result<(), Stop>
-    ensures tells { IsTrue (O.tells out.new) → IsTrue (O.tells out.old) }
-    ensures whole { IsTrue (O.tells out.new) → OnOk result (O.put out.new ≡ O.put out.old ++ line.now) }
-    ensures part { IsTrue (O.tells out.new) → PutsPart (O.put out.old) (O.put out.new) line.now }
-    ensures only { IfErr result (λ stop. stop ≡ Stop.Output) }
-    ensures output { Causes Stop.Output (O.faults out.old) (O.faults out.new) result }
+/// The header of the rows, and what is behind it.
+fn behind_header<'a>(
+    alloc: Global,
+    robot: &Robot,
+    bytes: &'a [u8],
+) -> Result<(Header, &'a [u8]), RowsStop>
+    ensures ok { IfOk result (λ found. rows_of_lines robot.now (lines_of bytes.now) ≡ Ok (rows_in found.0 (lines_of found.1.now))) }
+    ensures within { IfOk result (λ found. IsWithin robot.now found.0) }
+    ensures shorter { IfOk result (λ found. length found.1.now ≤ length bytes.now) }
+    ensures err { IfErr result (λ stop. (stop ≡ RowsStop.Memory) ⊎ ((fault : RowsFault) × (stop ≡ RowsStop.Fault fault) × (rows_of_lines robot.now (lines_of bytes.now) ≡ Err fault))) }
 {
-    if put_all(out, line).is_err() {
-        return Err(Stop::Output);
+    let Some(first) = next_line(bytes) else {
+        return Err(RowsStop::Fault(RowsFault::BadHeader));
+    };
+    if first.size > MOST_LINE {
+        return Err(RowsStop::Fault(RowsFault::LineTooLong(0)));
     }
-    Ok(())
+    match header_of(alloc, robot, first.content) {
+        Ok(Some(header)) => Ok((header, first.rest)),
+        Ok(None) => Err(RowsStop::Fault(RowsFault::BadHeader)),
+        Err(_) => Err(RowsStop::Memory),
+    }
 }
 
-/// Makes what the rows of a chain need: the first line, and a desk.
-fn prepare(alloc: Global, chain: &Chain) -> Result<(Vec<u8>, Desk), Stop>
-    ensures first { IfOk result (λ made. made.0.items ≡ first_line_of chain.now) }
-    ensures desk { IfOk result (λ made. made.1.sliders ≡ length chain.now.sliders) }
-    ensures only { IfErr result (λ stop. stop ≡ Stop.Memory) }
+/// Makes what the rows of a robot need: the first line, and a desk.
+fn prepare(alloc: Global, robot: &Robot) -> Result<(Vec<u8>, Desk), RowsStop>
+    ensures first { IfOk result (λ made. made.0.items ≡ first_line_of robot.now) }
+    ensures desk { IfOk result (λ made. IsDeskOf robot.now made.1) }
+    ensures only { IfErr result (λ stop. stop ≡ RowsStop.Memory) }
 {
-    let Ok(first) = first_line(alloc, chain) else {
-        return Err(Stop::Memory);
+    let Ok(first) = first_line(alloc, robot) else {
+        return Err(RowsStop::Memory);
     };
-    let Ok(desk) = Desk::new(alloc, chain) else {
-        return Err(Stop::Memory);
+    let Ok(desk) = Desk::new(alloc, robot) else {
+        return Err(RowsStop::Memory);
     };
     Ok((first, desk))
 }
 
+/// Puts the first line, and then the lines of the rows behind the header. Tells whether a row is refused.
+fn answer_behind<O: Sink>(
+    alloc: Global,
+    robot: &Robot,
+    header: Header,
+    rest: &[u8],
+    out: &mut O,
+) -> Result<bool, RowsStop>
+    requires within { IsWithin robot.now header }
+    requires short { length rest.now ≤ most_rows }
+    ensures tells { IsTrue (O.tells out.new) → IsTrue (O.tells out.old) }
+    ensures follows { Follows (course_of_rows robot.now (Ok (rows_in header (lines_of rest.now)))) (stream O.tells O.put O.faults out.old out.new) (told_as stop_of_rows result) }
+    ensures long { ¬ (IsErrOf result (RowsStop.Fault RowsFault.TooLong)) }
+    ensures rose { IsErrOf result RowsStop.Output → Rose (O.faults out.old) (O.faults out.new) }
+    ensures kept { ¬ (IsErrOf result RowsStop.Output) → O.faults out.new ≡ O.faults out.old }
+{
+    let (first, mut desk) = match prepare(alloc, robot) {
+        Ok(made) => made,
+        Err(stop) => return Err(stop),
+    };
+    match put(first.as_slice(), out) {
+        Ok(()) => put_rows(robot, header, rest, &mut desk, out),
+        Err(stop) => Err(stop),
+    }
+}
+
 /// Answers the rows of an input. Tells whether a row is refused.
-#[tactic(auto, using(rb_io::proofs::Parts::part_none))]
 pub(crate) fn answer_all<O: Sink>(
     alloc: Global,
-    chain: &Chain,
+    robot: &Robot,
     bytes: &[u8],
     out: &mut O,
-) -> Result<bool, Stop>
+) -> Result<bool, RowsStop>
     requires short { length bytes.now ≤ most_rows }
     ensures tells { IsTrue (O.tells out.new) → IsTrue (O.tells out.old) }
-    ensures answer { IsTrue (is_plain result) → result ≡ (course_of_rows chain.now (rows_of chain.now bytes.now)).answer }
-    ensures whole { IsTrue (O.tells out.new) → IsTrue (is_plain result) → O.put out.new ≡ O.put out.old ++ (course_of_rows chain.now (rows_of chain.now bytes.now)).put }
-    ensures part { IsTrue (O.tells out.new) → PutsPart (O.put out.old) (O.put out.new) (course_of_rows chain.now (rows_of chain.now bytes.now)).put }
-    ensures output { Causes Stop.Output (O.faults out.old) (O.faults out.new) result }
-    ensures stops { IsLineStep result }
+    ensures follows { Follows (course_of_rows robot.now (rows_of_lines robot.now (lines_of bytes.now))) (stream O.tells O.put O.faults out.old out.new) (told_as stop_of_rows result) }
+    ensures long { ¬ (IsErrOf result (RowsStop.Fault RowsFault.TooLong)) }
+    ensures rose { IsErrOf result RowsStop.Output → Rose (O.faults out.old) (O.faults out.new) }
+    ensures kept { ¬ (IsErrOf result RowsStop.Output) → O.faults out.new ≡ O.faults out.old }
 {
-    let rest = behind_header(chain, bytes)?;
-    let (first, mut desk) = prepare(alloc, chain)?;
-    put_first(first.as_slice(), out)?;
-    put_rows(chain, rest, &mut desk, out)
+    match behind_header(alloc, robot, bytes) {
+        Ok((header, rest)) => answer_behind(alloc, robot, header, rest, out),
+        Err(stop) => Err(stop),
+    }
 }

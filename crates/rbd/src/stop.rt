@@ -1,28 +1,112 @@
-//! What ends a run before its last row.
+//! What ends a run before its last row, by the part of the run that it comes from.
+ghost use Rattle.std.specs.Prelude.{◌≡◌};
+ghost use Rattle.rbd.specs.Stops.{stop_of_read, stop_of_rows};
 
 use rb_tags::TagFault;
+use rb_tree::TreeFault;
+use rb_urdf::UrdfFault;
+
+/// What is wrong with the words.
+#[derive(Clone, Copy, Debug, PartialEq, Eq)]
+pub enum UsageFault {
+    /// They are not those of the program.
+    Words,
+    /// The kind of the root is none.
+    Root,
+}
+
+/// What is wrong with the robot's file.
+#[derive(Clone, Copy, Debug, PartialEq, Eq)]
+pub enum RobotFault {
+    /// It passes 8 MiB.
+    TooLong,
+    /// It is no list of tags.
+    Tags(TagFault),
+    /// Its tags are no robot.
+    Urdf(UrdfFault),
+    /// Its robot is no tree.
+    Tree(TreeFault),
+    /// The name of a link or a joint has a character other than letters, digits and `_`: the place of the first.
+    Name(u64),
+}
+
+/// What is wrong with the rows.
+#[derive(Clone, Copy, Debug, PartialEq, Eq)]
+pub enum RowsFault {
+    /// They pass 2^40 bytes.
+    TooLong,
+    /// The header is missing, or is another one.
+    BadHeader,
+    /// A line passes 65,536 bytes: its row, from 1, or 0 for the header.
+    LineTooLong(u64),
+}
 
 /// Why a run ends before its last row.
 #[derive(Clone, Copy, Debug, PartialEq, Eq)]
 pub enum Stop {
-    /// The words do not fit.
-    Usage,
-    /// The robot's file is no list of tags.
-    BadTags(TagFault),
-    /// The robot's file has no form that is taken.
-    Unbuilt,
-    /// The robot's file passes 8 MiB.
-    LongFile,
-    /// The header is missing, or is another one.
-    BadHeader,
-    /// A line passes 65,536 bytes: its row, from 1, or 0 for the header.
-    LongLine(u64),
-    /// The rows pass 2^40 bytes.
-    LongRows,
+    Usage(UsageFault),
+    Robot(RobotFault),
+    Rows(RowsFault),
     /// An input failed.
     Input,
     /// The output failed.
     Output,
     /// No memory was found.
     Memory,
+}
+
+/// Why bytes are refused, or that no memory was found.
+#[derive(Clone, Copy, Debug, PartialEq, Eq)]
+pub enum Refusal<F> {
+    Fault(F),
+    Memory,
+}
+
+/// Why a name is not read: for what it holds, for a fault of the input, or for want of memory.
+#[derive(Clone, Copy, Debug, PartialEq, Eq)]
+pub enum ReadStop<F> {
+    Fault(F),
+    Input,
+    Memory,
+}
+
+/// Why rows are not answered to the last: for what they hold, for a fault of the output, or for want of memory.
+#[derive(Clone, Copy, Debug, PartialEq, Eq)]
+pub enum RowsStop {
+    Fault(RowsFault),
+    Output,
+    Memory,
+}
+
+/// A stop of reading the robot, as one of the run.
+pub(crate) fn of_robot(stop: ReadStop<RobotFault>) -> Stop
+    ensures { result ≡ stop_of_read Stop.Robot stop }
+{
+    match stop {
+        ReadStop::Fault(fault) => Stop::Robot(fault),
+        ReadStop::Input => Stop::Input,
+        ReadStop::Memory => Stop::Memory,
+    }
+}
+
+/// A stop of reading the rows, as one of the run.
+pub(crate) fn of_reading(stop: ReadStop<RowsFault>) -> Stop
+    ensures { result ≡ stop_of_read Stop.Rows stop }
+{
+    match stop {
+        ReadStop::Fault(fault) => Stop::Rows(fault),
+        ReadStop::Input => Stop::Input,
+        ReadStop::Memory => Stop::Memory,
+    }
+}
+
+/// A stop of answering the rows, as one of the run.
+pub(crate) fn of_rows(stop: RowsStop) -> Stop
+    ensures { result ≡ stop_of_rows stop }
+{
+    match stop {
+        RowsStop::Fault(fault) => Stop::Rows(fault),
+        RowsStop::Output => Stop::Output,
+        RowsStop::Memory => Stop::Memory,
+    }
 }

@@ -8,6 +8,15 @@ use std::test::Fail;
 const LIFT: &[u8] =
     br#"<robot name="lift"><link name="base"/><link name="car"><inertial><mass value="2"/></inertial></link><joint name="lift" type="prismatic"><parent link="base"/><child link="car"/><axis xyz="0 0 1"/></joint></robot>"#;
 
+const ARM: &[u8] =
+    br#"<robot name="arm"><link name="base"/><link name="rod"><inertial><origin xyz="0 0 -1"/><mass value="1"/></inertial></link><joint name="hinge" type="revolute"><parent link="base"/><child link="rod"/><axis xyz="0 1 0"/></joint></robot>"#;
+
+const WHEEL: &[u8] =
+    br#"<robot name="arm"><link name="base"/><link name="rod"><inertial><origin xyz="0 0 -1"/><mass value="1"/></inertial></link><joint name="hinge" type="continuous"><parent link="base"/><child link="rod"/><axis xyz="0 1 0"/></joint></robot>"#;
+
+const BOX: &[u8] =
+    br#"<robot name="box"><link name="box"><inertial><mass value="1"/><inertia ixx="1" ixy="0" ixz="0" iyy="1" iyz="0" izz="1"/></inertial></link></robot>"#;
+
 const FIRST: &[u8] = b"row,answer,cause,tau.lift\n";
 
 // How a run ended, and what it put.
@@ -18,25 +27,27 @@ struct Ran {
     err: MemSink,
 }
 
-fn words_of(alloc: Global) -> Result<Vec<String>, AllocError> {
+fn words_of(alloc: Global, root: &[&str]) -> Result<Vec<String>, AllocError> {
     let mut words = Vec::new(alloc);
-    words.push(String::from_str(alloc, "rbd")?)?;
-    words.push(String::from_str(alloc, "--task")?)?;
-    words.push(String::from_str(alloc, "rnea")?)?;
-    words.push(String::from_str(alloc, "--urdf")?)?;
-    words.push(String::from_str(alloc, "robot.urdf")?)?;
+    for word in ["rbd", "--task", "rnea", "--urdf", "robot.urdf"] {
+        words.push(String::from_str(alloc, word)?)?;
+    }
+    for word in root {
+        words.push(String::from_str(alloc, word)?)?;
+    }
     Ok(words)
 }
 
-// Runs over these bytes; the calls of these numbers fail.
+// Runs over these bytes with these words at the end; the calls of these numbers fail.
 fn run_failing(
     alloc: Global,
+    root: &[&str],
     robot: &[u8],
     rows: &[u8],
     reads: &[u64],
     writes: &[u64],
 ) -> Result<Ran, AllocError> {
-    let words = words_of(alloc)?;
+    let words = words_of(alloc, root)?;
     let mut inputs = MemInputs::new(alloc, 4096, reads)?;
     inputs.add("robot.urdf", robot)?;
     inputs.add("-", rows)?;
@@ -47,7 +58,11 @@ fn run_failing(
 }
 
 fn run_over(alloc: Global, robot: &[u8], rows: &[u8]) -> Result<Ran, AllocError> {
-    run_failing(alloc, robot, rows, &[], &[])
+    run_failing(alloc, &[], robot, rows, &[], &[])
+}
+
+fn run_from(alloc: Global, kind: &str, robot: &[u8], rows: &[u8]) -> Result<Ran, AllocError> {
+    run_failing(alloc, &["--root", kind], robot, rows, &[], &[])
 }
 
 // The robot `lift` with another mass.
@@ -134,13 +149,118 @@ fn the_thirteenth_digit_counts(rt: HostRuntime) -> Result<(), Fail> {
 }
 
 #[test]
-fn a_turning_joint_is_unbuilt(rt: HostRuntime) -> Result<(), Fail> {
-    let arm =
-        br#"<robot name="arm"><link name="base"/><link name="rod"><inertial><origin xyz="0 0 -1"/><mass value="1"/></inertial></link><joint name="hinge" type="revolute"><parent link="base"/><child link="rod"/><axis xyz="0 1 0"/></joint></robot>"#;
-    let ran = run_over(rt.alloc(), arm, b"a.hinge\n0\n")?;
+fn an_arm_turns(rt: HostRuntime) -> Result<(), Fail> {
+    let rows =
+        b"q.hinge,v.hinge,a.hinge,tau.hinge\n0,,,\n0.5,,,\n1.5707963267949,,,\n0.1..0.2,0,0,1\n8,,,\n8.000000000001,,,\n";
+    let ran = run_over(rt.alloc(), ARM, rows)?;
+    assert_eq!(rt; ran.status, Status::Refused);
+    assert_eq!(rt;
+        ran.out.bytes(),
+        b"row,answer,cause,tau.hinge\n1,ok,,0.000000000000..0.000000000000\n2,ok,,4.703164533705..4.703164533716\n3,ok,,9.809999999990..9.810000000000\n4,ok,,0.974463266883..1.958736538447\n5,ok,,9.705604399371..9.705604399382\n6,range,q[2],\n".as_slice()
+    );
+    Ok(())
+}
+
+#[test]
+fn a_wheel_turns(rt: HostRuntime) -> Result<(), Fail> {
+    // a quarter turn, by its cosine and its sine
+    let rows = b"q.hinge.cos,q.hinge.sin,v.hinge,a.hinge,tau.hinge\n0,1,0,0,0\n";
+    let ran = run_over(rt.alloc(), WHEEL, rows)?;
+    assert_eq!(rt; ran.status, Status::Done);
+    assert_eq!(rt;
+        ran.out.bytes(),
+        b"row,answer,cause,tau.hinge\n1,ok,,9.810000000000..9.810000000000\n".as_slice()
+    );
+    Ok(())
+}
+
+#[test]
+fn a_box_floats(rt: HostRuntime) -> Result<(), Fail> {
+    let header =
+        b"a.root_joint.vx,a.root_joint.vy,a.root_joint.vz,a.root_joint.wx,a.root_joint.wy,a.root_joint.wz\n0,0,0,0,0,0\n";
+    let ran = run_from(rt.alloc(), "floating", BOX, header)?;
+    assert_eq!(rt; ran.status, Status::Done);
+    assert_eq!(rt;
+        ran.out.bytes(),
+        b"row,answer,cause,tau.root_joint.vx,tau.root_joint.vy,tau.root_joint.vz,tau.root_joint.wx,tau.root_joint.wy,tau.root_joint.wz\n1,ok,,0.000000000000..0.000000000000,0.000000000000..0.000000000000,9.810000000000..9.810000000000,0.000000000000..0.000000000000,0.000000000000..0.000000000000,0.000000000000..0.000000000000\n".as_slice()
+    );
+    Ok(())
+}
+
+#[test]
+fn a_box_slides(rt: HostRuntime) -> Result<(), Fail> {
+    let rows = b"a.root_joint.vx,a.root_joint.vy,a.root_joint.wz\n1,0,2\n";
+    let ran = run_from(rt.alloc(), "planar", BOX, rows)?;
+    assert_eq!(rt; ran.status, Status::Done);
+    assert_eq!(rt;
+        ran.out.bytes(),
+        b"row,answer,cause,tau.root_joint.vx,tau.root_joint.vy,tau.root_joint.wz\n1,ok,,1.000000000000..1.000000000000,0.000000000000..0.000000000000,2.000000000000..2.000000000000\n".as_slice()
+    );
+    Ok(())
+}
+
+#[test]
+fn a_zero_quaternion_is_refused(rt: HostRuntime) -> Result<(), Fail> {
+    let mut rows = Vec::from_slice(
+        rt.alloc(),
+        b"q.root_joint.x,q.root_joint.y,q.root_joint.z,q.root_joint.qx,q.root_joint.qy,q.root_joint.qz,q.root_joint.qw",
+    )?;
+    for prefix in [
+        b",v.root_joint.".as_slice(),
+        b",a.root_joint.",
+        b",tau.root_joint.",
+    ] {
+        for suffix in [b"vx", b"vy", b"vz", b"wx", b"wy", b"wz"] {
+            rows.extend_from_slice(prefix)?;
+            rows.extend_from_slice(suffix)?;
+        }
+    }
+    rows.extend_from_slice(b"\n,,,0,0,0,0,,,,,,,,,,,,,,,,,,\n,,,0,0,0,1,,,,,,,,,,,,,,,,,,\n")?;
+    let ran = run_from(rt.alloc(), "floating", BOX, rows.as_slice())?;
+    assert_eq!(rt; ran.status, Status::Refused);
+    assert_eq!(rt;
+        ran.out.bytes(),
+        b"row,answer,cause,tau.root_joint.vx,tau.root_joint.vy,tau.root_joint.vz,tau.root_joint.wx,tau.root_joint.wy,tau.root_joint.wz\n1,notunit,q[1],,,,,,\n2,ok,,0.000000000000..0.000000000000,0.000000000000..0.000000000000,9.810000000000..9.810000000000,0.000000000000..0.000000000000,0.000000000000..0.000000000000,0.000000000000..0.000000000000\n".as_slice()
+    );
+    Ok(())
+}
+
+#[test]
+fn words_are_read(rt: HostRuntime) -> Result<(), Fail> {
+    let fixed = run_from(rt.alloc(), "fixed", LIFT, b"a.lift\n")?;
+    assert_eq!(rt; fixed.out.bytes(), FIRST);
+    let other = run_from(rt.alloc(), "free", LIFT, b"a.lift\n")?;
+    assert_eq!(rt; other.status, Status::Usage);
+    assert_eq!(rt; other.err.bytes(), b"rbd: usage: root\n".as_slice());
+    let one = run_failing(rt.alloc(), &["--root"], LIFT, b"", &[], &[])?;
+    assert_eq!(rt; one.status, Status::Usage);
+    assert_eq!(rt; one.err.bytes(), b"rbd: usage: words\n".as_slice());
+    Ok(())
+}
+
+#[test]
+fn a_second_root_is_refused(rt: HostRuntime) -> Result<(), Fail> {
+    let two = br#"<robot name="lift"><link name="base"/><link name="car"/></robot>"#;
+    let ran = run_over(rt.alloc(), two, b"a.lift\n1.5\n")?;
     assert_eq!(rt; ran.status, Status::Robot);
     assert_eq!(rt; ran.out.bytes(), b"".as_slice());
-    assert_eq!(rt; ran.err.bytes(), b"rbd: urdf: Unbuilt at 0\n".as_slice());
+    assert_eq!(rt; ran.err.bytes(), b"rbd: urdf: TwoRoots at 38\n".as_slice());
+    Ok(())
+}
+
+#[test]
+fn other_names_are_unbuilt(rt: HostRuntime) -> Result<(), Fail> {
+    // the joint comes first in the file, and its name is the first that has another character
+    let odd =
+        br#"<robot name="r"><joint name="j-1" type="fixed"><parent link="a"/><child link="b.c"/></joint><link name="a"/><link name="b.c"/></robot>"#;
+    let ran = run_over(rt.alloc(), odd, b"a.j\n")?;
+    assert_eq!(rt; ran.status, Status::Robot);
+    assert_eq!(rt; ran.err.bytes(), b"rbd: urdf: Unbuilt at 16\n".as_slice());
+    let nameless = run_over(rt.alloc(), br#"<robot name="r"><link/></robot>"#, b"")?;
+    assert_eq!(rt;
+        nameless.err.bytes(),
+        b"rbd: urdf: NoName at 16\n".as_slice()
+    );
     Ok(())
 }
 
@@ -193,7 +313,7 @@ fn fields_are_refused(rt: HostRuntime) -> Result<(), Fail> {
 #[test]
 fn a_read_fails(rt: HostRuntime) -> Result<(), Fail> {
     // the robot is opened and read in two calls, the rows are opened by the fourth
-    let ran = run_failing(rt.alloc(), LIFT, b"a.lift\n1.5\n", &[5], &[])?;
+    let ran = run_failing(rt.alloc(), &[], LIFT, b"a.lift\n1.5\n", &[5], &[])?;
     assert_eq!(rt; ran.status, Status::InputFault);
     assert_eq!(rt; ran.out.bytes(), b"".as_slice());
     assert_eq!(rt; ran.err.bytes(), b"rbd: input failed\n".as_slice());
@@ -202,7 +322,7 @@ fn a_read_fails(rt: HostRuntime) -> Result<(), Fail> {
 
 #[test]
 fn a_write_fails(rt: HostRuntime) -> Result<(), Fail> {
-    let ran = run_failing(rt.alloc(), LIFT, b"a.lift\n1.5\n", &[], &[1])?;
+    let ran = run_failing(rt.alloc(), &[], LIFT, b"a.lift\n1.5\n", &[], &[1])?;
     assert_eq!(rt; ran.status, Status::OutputFault);
     assert_eq!(rt; ran.out.bytes(), b"".as_slice());
     assert_eq!(rt; ran.err.bytes(), b"rbd: output failed\n".as_slice());
@@ -231,7 +351,7 @@ fn lines_are_limited(rt: HostRuntime) -> Result<(), Fail> {
 }
 
 #[test]
-fn sliders_are_limited(rt: HostRuntime) -> Result<(), Fail> {
+fn columns_are_limited(rt: HostRuntime) -> Result<(), Fail> {
     let alloc = rt.alloc();
     let most = run_over(alloc, tower_of(alloc, 64)?.as_slice(), b"a.j0\n")?;
     assert_eq!(rt;
@@ -239,7 +359,11 @@ fn sliders_are_limited(rt: HostRuntime) -> Result<(), Fail> {
         b"rbd: rows: BadHeader at field 0\n".as_slice()
     );
     let more = run_over(alloc, tower_of(alloc, 65)?.as_slice(), b"a.j0\n")?;
-    assert_eq!(rt; more.err.bytes(), b"rbd: urdf: Unbuilt at 0\n".as_slice());
+    assert_eq!(rt; more.status, Status::Robot);
+    assert_eq!(rt;
+        more.err.bytes(),
+        b"rbd: urdf: TooManyColumns at 7633\n".as_slice()
+    );
     Ok(())
 }
 

@@ -1,9 +1,17 @@
-use Rattle.rb_io.proofs.Parts.{part_first, part_later}
+use Rattle.std.proofs.Common.{◌≡◌, refl}
+use Rattle.rbd.specs.Cut.{lines_of}
+use Rattle.rbd.specs.declared.stop.RowsFault.TheVariants.{TooLong}
+use Rattle.rbd.specs.declared.stop.RowsStop.TheVariants.{Fault}
+use Rattle.rbd.proofs.Courses.{header_stops, stop_otherwise}
 use Rattle.rbd.proofs.rows.answer_all.Goals as goal
 
-pub returns-in_err-put_first-clause-part : goal.returns-in_err-put_first-clause-part
-returns-in_err-put_first-clause-part g c = λ told. rw c.in_ok-rest.ensures.ok (part_first _ _ (rw (c.as_slice.ensures.value, c.in_ok-first.ensures.first) at (c.put_first.ensures.part told)))
+pub returns-in-Err-clause-follows : goal.returns-in-Err-clause-follows
+returns-in-Err-clause-follows g c = header_stops _ _ _ _ c.in-Err.ensures.err (λ told. refl)
 
-pub returns-clause-part : goal.returns-clause-part
-returns-clause-part g c = λ told. rw c.in_ok-rest.ensures.ok
-    (part_later _ _ (rw (c.as_slice.ensures.value, c.in_ok-first.ensures.first) at (c.in_ok-put_first.ensures.whole (c.put_rows.ensures.tells told))) (c.put_rows.ensures.part told))
+pub returns-in-Ok-clause-follows : goal.returns-in-Ok-clause-follows
+returns-in-Ok-clause-follows g c = rw c.in-Ok.ensures.ok c.answer_behind.ensures.follows
+
+pub returns-in-Err-clause-long : goal.returns-in-Err-clause-long
+returns-in-Err-clause-long g c = λ is.
+    let same : c.in-Err.stop ≡ Fault TooLong = cc in
+    stop_otherwise c.args.robot.now (lines_of c.args.bytes.now) c.in-Err.stop c.in-Err.ensures.err same

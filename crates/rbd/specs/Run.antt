@@ -1,0 +1,106 @@
+-- What a run does to what is outside, and what its status says.
+use Rattle.std.specs.Prelude.{◌≡◌, ◌≢◌, ◌⊎◌, ◌<◌, ℕ, List, ◌++◌, Bool, true, false, IsTrue, Result, Ok, Err}
+use Rattle.rb_io.specs.Outside.{Rose}
+use Rattle.rb_io.specs.Calls.{PutsPart}
+use Rattle.rbd.specs.declared.stop.UsageFault.{UsageFault}
+use Rattle.rbd.specs.declared.stop.RobotFault.TheVariants as robot
+use Rattle.rbd.specs.declared.stop.RowsFault.TheVariants as rows
+use Rattle.rbd.specs.declared.stop.Stop.{Stop}
+use Rattle.rbd.specs.declared.stop.Stop.TheVariants.{Usage, Robot, Rows, Input, Output, Memory}
+use Rattle.rbd.specs.declared.status.Status.{Status}
+use Rattle.rbd.specs.declared.status.Status.TheVariants as status
+use Rattle.rbd.specs.Words.{command_of}
+use Rattle.rbd.specs.Plan.{most_file}
+use Rattle.rbd.specs.Inputs.{most_rows}
+use Rattle.rbd.specs.Course.{Course, IsCourse}
+use Rattle.rbd.specs.Ends.{status_of, text_of}
+
+-- ---- what is outside
+-- the inputs: whether they tell their bytes, what each name holds, how many bytes of the last name were given, and the count of faults as the call
+-- begins and as it ends
+pub record Source : Type 0 where
+  pub tells : Bool
+  pub holds : List ℕ → List ℕ
+  pub given : ℕ
+  pub before : ℕ
+  pub after : ℕ
+
+abbrev pub source : {I : Type 0} → (I → Bool) → (I → List ℕ → List ℕ) → (I → ℕ) → (I → ℕ) → I → I → Source
+source tells holds given faults old new =
+    record { tells = tells old; holds = holds old; given = given new; before = faults old; after = faults new }
+
+-- an output: whether it tells its bytes, these bytes and the count of faults, as the call begins and as it ends
+pub record Stream : Type 0 where
+  pub tells : Bool
+  pub old : List ℕ
+  pub new : List ℕ
+  pub before : ℕ
+  pub after : ℕ
+
+abbrev pub stream : {O : Type 0} → (O → Bool) → (O → List ℕ) → (O → ℕ) → O → O → Stream
+stream tells put faults old new =
+    record { tells = tells new; old = put old; new = put new; before = faults old; after = faults new }
+
+-- ---- answers
+-- the answer comes from what was read, and not from a fault or from want of memory
+abbrev pub is_plain : Result Bool Stop → Bool
+is_plain (Ok refused) = true
+is_plain (Err (Usage fault)) = true
+is_plain (Err (Robot fault)) = true
+is_plain (Err (Rows fault)) = true
+is_plain (Err Input) = false
+is_plain (Err Output) = false
+is_plain (Err Memory) = false
+
+-- a count of faults: it rose where the answer is this stop, and is kept where it is another
+pub record Counts (stop : Stop) (answer : Result Bool Stop) (before after : ℕ) : Type 0 where
+  pub rose : answer ≡ Err stop → Rose before after
+  pub kept : answer ≢ Err stop → after ≡ before
+
+-- ---- courses
+-- a run along its course: it answers and puts what the course says, or a part of it where a fault or want of memory ends it
+pub record Follows (course : Course) (out : Stream) (answer : Result Bool Stop) : Type 0 where
+  pub answers : IsTrue (is_plain answer) → answer ≡ course.answer
+  pub whole : IsTrue (is_plain answer) → IsTrue out.tells → out.new ≡ out.old ++ course.put
+  pub part : IsTrue out.tells → PutsPart out.old out.new course.put
+
+-- a run that a fault of an input or want of memory ends before it has read the rows: nothing is put
+pub record EndsEarly (out : Stream) (answer : Result Bool Stop) : Type 0 where
+  pub fault : is_plain answer ≡ false
+  pub nothing : IsTrue out.tells → out.new ≡ out.old
+
+pub record HasCourse (words : List (List ℕ)) (held : List ℕ → List ℕ) (out : Stream) (answer : Result Bool Stop) : Type 0 where
+  pub course : Course
+  pub is : IsCourse words held course
+  pub follows : Follows course out answer
+
+-- ---- a run
+-- the steps of a run up to its answer. The causes in the words, in the counts and in the number of bytes given stand also where the inputs do not
+-- tell their bytes.
+pub record Goes (words : List (List ℕ)) (inputs : Source) (out : Stream) (answer : Result Bool Stop) : Type 0 where
+  pub usage : (fault : UsageFault) → answer ≡ Err (Usage fault) → command_of words ≡ Err fault
+  pub usage_always : (fault : UsageFault) → command_of words ≡ Err fault → (answer ≡ Err (Usage fault)) ⊎ (answer ≡ Err Memory)
+  pub long_file : answer ≡ Err (Robot robot.TooLong) → most_file < inputs.given
+  pub long_rows : answer ≡ Err (Rows rows.TooLong) → most_rows < inputs.given
+  pub input : Counts Input answer inputs.before inputs.after
+  pub output : Counts Output answer out.before out.after
+  pub course : IsTrue inputs.tells → EndsEarly out answer ⊎ HasCourse words inputs.holds out answer
+
+-- how a run ends: the status and the line on standard error are those of one answer
+pub record Ends (words : List (List ℕ)) (inputs : Source) (out err : Stream) (ended : Status) (answer : Result Bool Stop) : Type 0 where
+  pub status : ended ≡ status_of answer
+  pub steps : Goes words inputs out answer
+  pub line : IsTrue err.tells → (err.new ≡ err.old ++ text_of answer) ⊎ Rose err.before err.after
+  pub line_part : IsTrue err.tells → PutsPart err.old err.new (text_of answer)
+
+-- ---- completeness
+-- a status that no fault and no want of memory decides: that of the course
+pub record IsOfCourse (words : List (List ℕ)) (held : List ℕ → List ℕ) (ended : Status) : Type 0 where
+  pub course : Course
+  pub is : IsCourse words held course
+  pub status : ended ≡ status_of course.answer
+
+-- where the inputs tell their bytes and no count rose, a run ends as its course says, or for want of memory
+abbrev pub IsComplete : List (List ℕ) → Source → Stream → Status → Type 0
+IsComplete words inputs out ended =
+    IsTrue inputs.tells → ¬ Rose inputs.before inputs.after → ¬ Rose out.before out.after → IsOfCourse words inputs.holds ended ⊎ (ended ≡ status.Memory)
