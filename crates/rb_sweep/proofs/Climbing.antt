@@ -1,5 +1,5 @@
 -- Lists of names whose ranks ascend, body by body.
-use Rattle.std.proofs.Common.{◌≡◌, ℕ, zero, suc, ◌+◌, ◌-◌, ◌<◌, ◌≤◌, List, [], ◌∷◌, ◌++◌, flat_map, filter, map, length, Bool, true, false, cond, Result, Ok, Err, inl, inr, refl, ap, sym, ◌∙◌, subst, arith}
+use Rattle.std.proofs.Common.{◌≡◌, ℕ, zero, suc, ◌+◌, ◌-◌, ◌<◌, ◌≤◌, List, [], ◌∷◌, ◌++◌, flat_map, filter, map, length, get_or, Bool, true, false, cond, Result, Ok, Err, inl, inr, refl, ap, sym, ◌∙◌, subst, arith}
 use Rattle.std.proofs.lemmas.Bool.{cases_lt}
 use Rattle.rb_result.specs.Steps.{◌>>=◌}
 use Rattle.rb_result.proofs.Results.{grouped}
@@ -158,6 +158,12 @@ module _ {S E : Type 0} (p : Naming S E) where
   stand_each w [] h = tt
   stand_each w (n ∷ ns) h = (h n (inl refl), stand_each w ns (λ m i. h m (inr i)))
 
+  -- names that stand are found as they are, where putting what a state holds leaves it
+  pub run_standing : (ns : List p.Name) (w : S) → ((m : p.Name) → Among m ns → p.put m (p.look m w) w ≡ w) → Stand p w ns → run p ns w ≡ Ok w
+  run_standing [] w held h = refl
+  run_standing (n ∷ ns) w held h =
+      ap (λ r. (r >>= λ x. run p ns (p.put n x w))) h.0 ∙ ap (run p ns) (held n (inl refl)) ∙ run_standing ns w (λ m i. held m (inr i)) h.1
+
 module _ {S E : Type 0} (p : Naming S E) (at : ℕ → S → Result S E) (name : ℕ → p.Name) (Ahead : ℕ → S → Type 0)
     (h : (i : ℕ) (s : S) → Ahead i s → at i s ≡ run p (name i ∷ []) s) (next : (i : ℕ) (x : p.Value (name i)) (s : S) → Ahead i s → Ahead (i + 1) (p.put (name i) x s)) where
   in_place_along : (k lo : ℕ) (s : S) → Ahead lo s → sweep at (counting_up lo k) s ≡ run p (flat_map (λ i. name i ∷ []) (counting_up lo k)) s
@@ -251,3 +257,12 @@ length-counting_up (suc k) lo = ap suc (length-counting_up k (lo + 1))
 pub length-upward : (lo hi : ℕ) → length (upward lo hi) ≡ hi - lo
 unfolding upward
 length-upward lo hi = length-counting_up (hi - lo) lo
+
+counting_up_at : (k lo i d : ℕ) → i < k → get_or (counting_up lo k) i d ≡ lo + i
+counting_up_at zero lo i d h = absurd (omega arith)
+counting_up_at (suc k) lo zero d h = omega arith
+counting_up_at (suc k) lo (suc i) d h = let e : get_or (counting_up (lo + 1) k) i d ≡ lo + 1 + i = counting_up_at k (lo + 1) i d (omega arith) in omega arith
+
+pub upward_at : (lo hi i d : ℕ) → i < hi - lo → get_or (upward lo hi) i d ≡ lo + i
+unfolding upward
+upward_at lo hi i d h = counting_up_at (hi - lo) lo i d h

@@ -1,10 +1,11 @@
 -- What holds of names that are found in turn, whatever the state held before.
 use Rattle.std.proofs.Common.{◌≡◌, ℕ, ◌+◌, ◌<◌, ◌≤◌, List, [], ◌∷◌, ◌++◌, Result, Ok, Err, ◌⊎◌, inl, inr, refl, ap, sym, ◌∙◌, subst, arith}
+use Rattle.std.proofs.lemmas.List.{append_assoc}
 use Rattle.rb_result.specs.Steps.{◌>>=◌}
 use Rattle.rb_result.proofs.Results.{then-ok, then-err, same_ok, same_err}
 use Rattle.rb_sweep.specs.Sweep.{Among}
 use Rattle.rb_sweep.specs.Naming.{Naming, run, Stands, Stand, IsRefusedFirst}
-use Rattle.rb_sweep.proofs.Climbing.{Climbs, climbs_before, climbs_among, climbs_known, stands_at, stand_each}
+use Rattle.rb_sweep.proofs.Climbing.{Climbs, climbs_before, climbs_among, climbs_known, among_left, among_right, stands_at, stand_each, run_append, run_standing}
 
 never : {X A E : Type 0} (x : A) (e : E) → (let r : Result A E = Ok x in r ≡ Err e) → X
 never x e h = absurd cc
@@ -250,3 +251,34 @@ module _ {S E : Type 0} (p : Naming S E) (v : Shape p) (o : IsOrdered p v) where
 
   pub same_refused : (s t : S) (e : E) → v.Fits s → v.Fits t → SameGiven p v s t → v.sweep s ≡ Err e → v.sweep t ≡ Err e
   same_refused s t e fs ft g r = let h : Refusal s e = refusal s e fs r in refuses t h.reached e ft (λ i. sym (g i) ∙ ap (v.given i) h.keeps) h.first
+
+-- ---- names that are found behind those of a call: the order begins with the call's, whose names have the same rules
+module _ {S E : Type 0} (p : Naming S E) (v : Shape p) (o : IsOrdered p v) (rule : (n : p.Name) → S → Result (p.Value n) E) (behind : List p.Name)
+    (same : (n : p.Name) (w : S) → v.Known n → rule n w ≡ p.rule n w) where
+  abbrev pub longer : Naming S E
+  longer = record p { rule = rule; order = p.order ++ behind }
+
+  stand_so : (w : S) (ns : List p.Name) → ((m : p.Name) → Among m ns → v.Known m) → Stand p w ns → Stand longer w ns
+  stand_so w [] known h = tt
+  stand_so w (n ∷ ns) known h = (same n w (known n (inl refl)) ∙ h.0, stand_so w ns (λ m i. known m (inr i)) h.1)
+
+  -- where the names of the call stand, the others are found from there, if putting what a state holds leaves it
+  pub run_behind : (w : S) → ((m : p.Name) → v.Known m → p.put m (p.look m w) w ≡ w) → Holds p v o w → run longer longer.order w ≡ run longer behind w
+  run_behind w held h =
+      let known : (m : p.Name) → Among m p.order → v.Known m = λ m i. climbs_known v.rank v.Known p.order o.first o.end m o.climbs i in
+      run_append longer p.order behind w
+      ∙ ap (λ r. (r >>= λ t. run longer behind t)) (run_standing longer p.order w (λ m i. held m (known m i)) (stand_so w p.order known (all_stand p v o w h)))
+
+  -- what is refused first of the call's names is refused first
+  pub refused_behind : (w : S) (e : E) → IsRefusedFirst p w e → IsRefusedFirst longer w e
+  refused_behind w e f =
+      let known : (m : p.Name) → Among m (f.before ++ f.name ∷ f.after) → v.Known m =
+      λ m i. climbs_known v.rank v.Known p.order o.first o.end m o.climbs (subst (λ ns. Among m ns) (sym f.split) i) in
+      record {
+        before = f.before;
+        name = f.name;
+        after = f.after ++ behind;
+        split = ap (λ ns. ns ++ behind) f.split ∙ append_assoc f.before (f.name ∷ f.after) behind;
+        stand = stand_so w f.before (λ m i. known m (among_left m f.before (f.name ∷ f.after) i)) f.stand;
+        refused = same f.name w (known f.name (among_right f.name f.before (f.name ∷ f.after) (inl refl))) ∙ f.refused;
+      }
