@@ -82,10 +82,10 @@ sums_more ps i low high l h p s lt e x =
     sums_read ps (i + 1) _ _ _ _ (sums_step ps i low high p s lt e x.0)
     (ap (λ (t : ℤ). low +ℤ t) (read l (omega (arith, ints)) el)) (ap (λ (t : ℤ). high +ℤ t) (read h (omega (arith, ints)) eh))
 
-quotient_above : (low F : ℤ) (i : ℕ) → i ≤ 64 → neg_ℤ (pos (i * limit)) ≤ℤ low → low <ℤ (F *ℤ pos grid +ℤ pos grid) → neg_ℤ (pos limit) ≤ℤ F
+pub quotient_above : (low F : ℤ) (i : ℕ) → i ≤ 64 → neg_ℤ (pos (i * limit)) ≤ℤ low → low <ℤ (F *ℤ pos grid +ℤ pos grid) → neg_ℤ (pos limit) ≤ℤ F
 quotient_above low F i h a b = omega (arith, ints)
 
-quotient_below : (high C : ℤ) (i : ℕ) → i ≤ 64 → high ≤ℤ pos (i * limit) → (C *ℤ pos grid +ℤ pos 1) ≤ℤ (high +ℤ pos grid) → C ≤ℤ pos limit
+pub quotient_below : (high C : ℤ) (i : ℕ) → i ≤ 64 → high ≤ℤ pos (i * limit) → (C *ℤ pos grid +ℤ pos 1) ≤ℤ (high +ℤ pos grid) → C ≤ℤ pos limit
 quotient_below high C i h a b = omega (arith, ints)
 
 pub record DotIs (ps : List (Interval × Interval)) (lo hi : ℤ) : Type 0 where
@@ -129,15 +129,3 @@ dot_is ps i low high q r s all few eq er =
     let rr : to_z w128 (of_z w128 r) ≡ n = read r (omega (arith, ints)) er' in
     let hh : to_z w128 (of_z w128 (pos 0 -ℤ to_z w128 (of_z w128 r))) ≡ neg_ℤ n = read (pos 0 -ℤ to_z w128 (of_z w128 r)) (omega (arith, ints)) (omega (arith, ints)) in
     dot_moved ps _ _ _ _ d (read q (omega (arith, ints)) eq) hh
-
--- the quotients, as `narrow_dot` finds them
-pub dot_rounded : (ps : List (Interval × Interval)) (i : ℕ) (low high q r : ℤ) → SumsAre ps i low high → length ps ≤ i → i ≤ 64
-    → q ≡ floor_of low grid → r ≡ ceil_of high grid
-    → DotIs ps (to_z w128 (of_z w128 q)) (to_z w128 (of_z w128 r))
-dot_rounded ps i low high q r s all few eq er =
-    let d = dot_at ps i low high s all few in
-    let v = d.invariant in
-    let v1 : neg_ℤ (pos limit) ≤ℤ floor_of low grid = v.low in
-    let v2 : floor_of low grid ≤ℤ ceil_of high grid = v.ordered in
-    let v3 : ceil_of high grid ≤ℤ pos limit = v.high in
-    dot_moved ps _ _ _ _ d (read q (omega (arith, ints)) eq) (read r (omega (arith, ints)) er)

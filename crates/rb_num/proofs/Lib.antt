@@ -5,6 +5,7 @@ pub mod Quotients
 pub mod Products
 pub mod Hull
 pub mod Dots
+pub mod Adding
 pub mod Encloses
 pub mod Quotient
 pub mod Refused
@@ -17,7 +18,9 @@ pub mod Same
 pub mod Examples
 pub mod Series
 pub mod Zeros
+pub mod Ones
 pub mod Signs
+pub mod Turned
 pub mod Small
 pub mod Written
 pub mod Reciprocal

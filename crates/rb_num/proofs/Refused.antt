@@ -52,6 +52,15 @@ result_is r ps h k = decided r (all_fit ps) (DotFits ps) (dot_of ps) (decides_fi
 pub ok_is : (ps : List (Interval × Interval)) (v : Interval) → DotFits ps → v ≡ dot_of ps → Ok v ≡ iv_dot ps
 ok_is ps v h e = result_is (Ok v) ps (h, e) tt
 
+-- and back
+pub is_ok : (ps : List (Interval × Interval)) (v : Interval) → iv_dot ps ≡ Ok v → DotFits ps × (v ≡ dot_of ps)
+unfolding iv_dot
+is_ok ps v e = go (all_fit ps) (decides_fit ps) e
+  where
+    go : (b : Bool) → Decides b (DotFits ps) → cond b (Ok (dot_of ps)) (Err Size) ≡ Ok v → DotFits ps × (v ≡ dot_of ps)
+    go true d h = (d.0 refl, cc)
+    go false d h = absurd cc
+
 -- what holds of the sum holds of the result, if there is one
 pub if_ok : (ps : List (Interval × Interval)) (P : Interval → Type 0) → P (dot_of ps) → IfOk (iv_dot ps) P
 unfolding iv_dot

@@ -1,4 +1,4 @@
-ghost use Rattle.std.specs.Prelude.{◌≡◌, ℤ, pos, ◌≤ℤ◌, ◌*ℤ◌, ◌≤◌, ◌↔◌, IsTrue, IfOk, IfErr, IfSome, OkIff, SomeIff, ◌≢◌, length, Result, Err};
+ghost use Rattle.std.specs.Prelude.{◌≡◌, ℤ, pos, ◌≤ℤ◌, ◌*ℤ◌, ◌≤◌, ◌↔◌, IsTrue, IsSome, IfOk, IfErr, IfSome, OkIff, SomeIff, ◌≢◌, length, Result, Ok, Err};
 ghost use Rattle.rb_num.specs.declared.interval.TheConstants.{MAX_PAIRS};
 ghost use Rattle.rb_num.specs.Interval.{Interval, IsInterval, IsWithin, EndsFit, grid, interval, sum_of, difference_of, negative_of};
 ghost use Rattle.std.specs.Int.{int_min, int_max};
@@ -11,8 +11,8 @@ ghost use Rattle.rb_num.specs.Least.{IsLeast, HasSums, HasQuotients, HasBoth};
 ghost use Rattle.rb_num.specs.Hull.{hull_of, meet_of, Meet, do_meet};
 ghost use Rattle.rb_num.specs.Quotient.{HasZero, floor_quotient as floor_quotient_of, quotient_of, quotients_of, least_of, QuotientFits, IsQuotientFault};
 
-use crate::narrow::{self, Narrow};
-use crate::rounding::BY_GRID;
+use crate::narrow::Narrow;
+use crate::sums::Sums;
 use std::marker::Model;
 
 /// The grid: `S` units make one. Each end of an interval counts units.
@@ -64,6 +64,7 @@ impl Model for Iv {
     ghost inverse = { λ v. record { lo = v.lo; hi = v.hi } };
 }
 
+#[inline]
 fn is_within(z: i128) -> bool
     ensures { IsTrue result ↔ IsWithin z }
 {
@@ -71,6 +72,7 @@ fn is_within(z: i128) -> bool
 }
 
 // The interval with these ends, where they are within the limit.
+#[inline]
 fn checked(lo: i128, hi: i128) -> Result<Iv, NumFault>
     requires { lo ≤ℤ hi }
     ensures exact { OkIff result (EndsFit (interval lo hi)) (interval lo hi) }
@@ -180,20 +182,13 @@ fn quotients(low: i128, high: i128, by_low: i128, by_high: i128) -> Iv
 #[inline(always)]
 fn narrow_dot(pairs: &[(Iv, Iv)]) -> Option<Iv>
     requires { length pairs.now ≤ MAX_PAIRS }
-    ensures { IfSome result (λ v. DotFits pairs.now × (v ≡ dot_of pairs.now)) }
+    ensures { IfSome result (λ v. iv_dot pairs.now ≡ Ok v) }
 {
-    let mut low: i128 = 0;
-    let mut high: i128 = 0;
-    for pair in pairs {
-        let a = pair.0.narrow()?;
-        let b = pair.1.narrow()?;
-        let (least, greatest) = narrow::product_ends(a, b);
-        low += least;
-        high += greatest;
+    let mut sums = Sums::none();
+    for k in (0..pairs.len()).rev() {
+        sums = sums.with(&pairs[k].0, &pairs[k].1)?;
     }
-    let lo = BY_GRID.rounded_down(low)?;
-    let hi = BY_GRID.rounded_up(high)?;
-    Some(Iv { lo, hi })
+    sums.sum()
 }
 
 // The same as `dot`, for intervals of any size.
@@ -245,6 +240,7 @@ impl Iv {
     pub const ONE: Iv = Iv { lo: S, hi: S };
 
     /// The interval with these ends, in units.
+    #[inline]
     pub fn new(lo: i128, hi: i128) -> Iv
         requires { IsInterval lo hi }
         ensures { result ≡ interval lo hi }
@@ -253,6 +249,7 @@ impl Iv {
     }
 
     /// The lower end, in units.
+    #[inline]
     pub fn lo(self) -> i128
         ensures value { result ≡ self.lo }
         ensures bounds { IsInterval self.lo self.hi }
@@ -261,6 +258,7 @@ impl Iv {
     }
 
     /// The upper end, in units.
+    #[inline]
     pub fn hi(self) -> i128
         ensures value { result ≡ self.hi }
         ensures bounds { IsInterval self.lo self.hi }
@@ -268,9 +266,10 @@ impl Iv {
         self.hi
     }
 
-    // The ends of an interval that is narrow.
-    #[inline]
-    fn narrow(self) -> Option<Narrow>
+    // The ends, where the interval is narrow.
+    #[inline(always)]
+    pub(crate) fn narrow(self) -> Option<Narrow>
+        ensures narrow { IsSome result ↔ IsNarrow self.lo self.hi }
         ensures ends { IfSome result (λ n. interval n.lo n.hi ≡ self) }
         ensures small { IfSome result (λ n. IsNarrow n.lo n.hi) }
     {
@@ -285,6 +284,7 @@ impl Iv {
     }
 
     /// The negatives. Nothing is rounded.
+    #[inline]
     pub fn neg(self) -> Iv
         ensures exact { result ≡ negative_of self }
         ensures encloses { EnclosesNegative self result }
@@ -296,6 +296,7 @@ impl Iv {
     }
 
     /// Whether zero lies in it.
+    #[inline]
     pub fn has_zero(self) -> bool
         ensures { IsTrue result ↔ HasZero self }
     {
@@ -303,6 +304,7 @@ impl Iv {
     }
 
     /// The least interval in which both lie.
+    #[inline]
     pub fn hull(self, other: Iv) -> Iv
         ensures exact { result ≡ hull_of self other }
         ensures least { IsLeast (HasBoth self other) result }
@@ -316,6 +318,7 @@ impl Iv {
 
     /// Whether some fraction lies in both.
     #[tactic(auto, using(crate::proofs::Refused::decides_meet), unfolding(crate::specs::Hull::do_meet))]
+    #[inline]
     pub fn meets(self, other: Iv) -> bool
         ensures value { result ≡ do_meet self other }
         ensures meet { IsTrue result ↔ Meet self other }
@@ -324,6 +327,7 @@ impl Iv {
     }
 
     /// The common part: `None` exactly where no fraction lies in both.
+    #[inline]
     pub fn meet(self, other: Iv) -> Option<Iv>
         ensures exact { SomeIff result (Meet self other) (meet_of self other) }
         ensures within { IfSome result (IsWithinBoth self other) }
@@ -363,6 +367,7 @@ impl Iv {
     ///
     /// It is refused with `Size` exactly where an end of the sum is larger in size than `B`, and
     /// never with `Zero`.
+    #[inline]
     pub fn add(self, other: Iv) -> Result<Iv, NumFault>
         ensures exact { result ≡ iv_add self other }
         ensures value { OkIff result (EndsFit (sum_of self other)) (sum_of self other) }
@@ -376,6 +381,7 @@ impl Iv {
     ///
     /// It is refused with `Size` exactly where an end of the difference is larger in size than `B`,
     /// and never with `Zero`.
+    #[inline]
     pub fn sub(self, other: Iv) -> Result<Iv, NumFault>
         ensures exact { result ≡ iv_sub self other }
         ensures value { OkIff result (EndsFit (difference_of self other)) (difference_of self other) }

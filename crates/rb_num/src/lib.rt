@@ -10,10 +10,12 @@ mod interval;
 pub mod laws;
 mod narrow;
 mod rounding;
+mod sums;
 mod terms;
 mod text;
 
 pub use interval::{B, Iv, MAX_PAIRS, NumFault, S, dot};
 pub use laws::{cut_law, dot_without_zero_law, lies_in_law, meet_law, sine_law, zero_law};
 pub use rounding::Divisor;
+pub use sums::Sums;
 pub use terms::TERMS;
