@@ -12,8 +12,9 @@ use Rattle.rb_num.proofs.Signs.{positive_least_above, positive_greatest_above}
 use Rattle.rb_trig.specs.declared.sine.Series.{Series}
 use Rattle.rb_trig.specs.declared.sine.Series.TheVariants.{Sine, Cosine}
 use Rattle.rb_trig.specs.Ends.{outward, products}
+use Rattle.rb_trig.specs.Short.{ShortNested}
 use Rattle.rb_trig.specs.Sine.{scale, divisor, step, nested, IsSquare}
-use Rattle.rb_trig.proofs.Nested.{PartlyNested, nested_start, nested_more}
+use Rattle.rb_trig.proofs.Nested.{nested_start, nested_more}
 use Rattle.rb_trig.proofs.Parts.{short_read}
 use Rattle.rb_trig.proofs.Read.{held, Makes}
 use Rattle.rb_trig.proofs.Sizes.{some_divisor, nested_within}
@@ -39,23 +40,19 @@ pub divider_high : (s : Series) (k d : ℕ) → k < 2 ^ 10 → 2 ^ 16 * d ≡ sc
 divider_high s k d h e = omega (arith, few_divisors s k h, e)
 
 -- ---- the loop
-pub record ShortNested (s : Series) (u : Interval) (n k lo hi : ℕ) : Type 0 where
-  pub partly : PartlyNested s u n k (interval (pos lo) (pos hi))
-  pub high : hi ≤ scale
-
 pub short_start : (s : Series) (u : Interval) (n : ℕ) → 1 ≤ n → ShortNested s u n n scale scale
-short_start s u n h = record { partly = nested_start s u (interval (pos scale) (pos scale)) n h refl; high = omega arith }
+short_start s u n h = let p = nested_start s u (interval (pos scale) (pos scale)) n h refl in record { some = p.some; value = p.value; high = omega arith }
 
 pub short_ordered : (s : Series) (u : Interval) (n k lo hi : ℕ) → IsSquare u → ShortNested s u n k lo hi → lo ≤ hi
 short_ordered s u n k lo hi h i =
-    let o : pos lo ≤ℤ pos hi = subst (λ (v : Interval). v.lo ≤ℤ v.hi) (sym i.partly.value) (nested_within s u (n - k) k h i.partly.some).ordered in
+    let o : pos lo ≤ℤ pos hi = subst (λ (v : Interval). v.lo ≤ℤ v.hi) (sym i.value) (nested_within s u (n - k) k h i.some).ordered in
     omega (arith, ints, o)
 
 pub short_ends : (s : Series) (u : Interval) (n k lo hi : ℕ) → IsSquare u → ShortNested s u n k lo hi → Makes (nested s u k (n - k)) (to_z w128 lo) (to_z w128 hi)
 short_ends s u n k lo hi h i =
     let o = short_ordered s u n k lo hi h i in
     short_read (nested s u k (n - k)) lo hi
-    (record { whole = record { ordered = omega (arith, ints, o); low = omega (arith, ints); high = omega (arith, ints, i.high) }; value = i.partly.value })
+    (record { whole = record { ordered = omega (arith, ints, o); low = omega (arith, ints); high = omega (arith, ints, i.high) }; value = i.value })
 
 short_below : (a b lo hi d x y : ℕ) → a ≤ b → lo ≤ hi → 0 < d → x ≡ a * lo / (scale * d) → pos y ≡ ceil_of (pos (b * hi)) (scale * d) → x ≤ y
 short_below a b lo hi d x y h k p ex ey =
@@ -76,50 +73,32 @@ short_step u a b d lo hi x y h ea eb o ex ey =
     high : pos y ≡ ceil_of (greatest_product (u, interval (pos lo) (pos hi))) (scale * d)
     high = ey ∙ ap (λ (z : ℤ). ceil_of z (scale * d)) (ap (λ (z : ℤ). z *ℤ pos hi) eb ∙ positive_greatest_above u.lo u.hi (pos lo) (pos hi) h.low h.ordered (omega (arith, ints, o)) (omega (arith, ints)))
 
--- the turn of the loop at k
-short_turn : (s : Series) (u : Interval) (n k a b d lo hi x y : ℕ) → IsSquare u → pos a ≡ u.lo → pos b ≡ u.hi → 1 < k → k ≤ n → ShortNested s u n k lo hi
-    → d ≡ divisor s (k - 1) → x ≡ a * lo / (scale * d) → pos y ≡ ceil_of (pos (b * hi)) (scale * d) → PartlyNested s u n (k - 1) (interval (pos scale -ℤ pos y) (pos scale -ℤ pos x))
-short_turn s u n zero a b d lo hi x y h ea eb p l i ed ex ey = absurd (omega (arith, p))
-short_turn s u n (suc j) a b d lo hi x y h ea eb p l i ed ex ey =
-    let e : suc j - 1 ≡ j = omega arith in
-    subst (λ (m : ℕ). PartlyNested s u n m (interval (pos scale -ℤ pos y) (pos scale -ℤ pos x))) (sym e)
-    (nested_more s u (interval (pos lo) (pos hi)) _ n j (pos d) (omega (arith, p)) (omega (arith, l)) i.partly.value (ap pos ed ∙ ap (λ (m : ℕ). pos (divisor s m)) e)
-    (short_step u a b d lo hi x y h ea eb (short_ordered s u n (suc j) lo hi h i) ex ey))
-
-pub short_less : (s : Series) (u : Interval) (n k a b d lo hi x y : ℕ) → IsSquare u → pos a ≡ u.lo → pos b ≡ u.hi → 1 < k → k ≤ n → ShortNested s u n k lo hi
-    → d ≡ divisor s (k - 1) → x ≡ a * lo / (scale * d) → pos y ≡ ceil_of (pos (b * hi)) (scale * d) → x ≤ y → y ≤ scale → ShortNested s u n (k - 1) (scale - y) (scale - x)
-short_less s u n k a b d lo hi x y h ea eb p l i ed ex ey o c =
+-- the turn to the term k
+pub short_less : (s : Series) (u : Interval) (n k a b lo hi x y : ℕ) → IsSquare u → pos a ≡ u.lo → pos b ≡ u.hi → 1 ≤ k → k < n → ShortNested s u n (k + 1) lo hi
+    → x ≡ a * lo / (scale * divisor s k) → pos y ≡ ceil_of (pos (b * hi)) (scale * divisor s k) → x ≤ y → y ≤ scale → ShortNested s u n k (scale - y) (scale - x)
+short_less s u n k a b lo hi x y h ea eb p l i ex ey o c =
     let f : pos scale -ℤ pos y ≡ pos (scale - y) = omega (arith, ints, c) in
     let g : pos scale -ℤ pos x ≡ pos (scale - x) = omega (arith, ints, o, c) in
+    let e : k + 1 ≡ suc k = omega arith in
+    let known : interval (pos lo) (pos hi) ≡ nested s u (suc k) (n - suc k) = i.value ∙ ap (λ (m : ℕ). nested s u m (n - m)) e in
+    let q = nested_more s u (interval (pos lo) (pos hi)) _ n k (pos (divisor s k)) p l known refl (short_step u a b (divisor s k) lo hi x y h ea eb (short_ordered s u n (k + 1) lo hi h i) ex ey) in
     record {
-      partly = subst (λ (v : Interval). PartlyNested s u n (k - 1) v) (ap (λ (z : ℤ). interval z (pos scale -ℤ pos x)) f ∙ ap (λ (z : ℤ). interval (pos (scale - y)) z) g)
-          (short_turn s u n k a b d lo hi x y h ea eb p l i ed ex ey);
+      some = q.some;
+      value = sym (ap (λ (z : ℤ). interval z (pos scale -ℤ pos x)) f ∙ ap (λ (z : ℤ). interval (pos (scale - y)) z) g) ∙ q.value;
       high = omega arith;
-    }
-
--- the turn at k, where an end may be negative
-pub short_last : (s : Series) (u : Interval) (n k a b d lo hi x y : ℕ) → IsSquare u → pos a ≡ u.lo → pos b ≡ u.hi → 1 < k → k ≤ n → ShortNested s u n k lo hi
-    → d ≡ divisor s (k - 1) → x ≡ a * lo / (scale * d) → pos y ≡ ceil_of (pos (b * hi)) (scale * d) → x ≤ y → y < 2 ^ 64
-    → Makes (nested s u (k - 1) (n - (k - 1))) (held (pos scale -ℤ to_z w128 y)) (held (pos scale -ℤ to_z w128 x))
-short_last s u n k a b d lo hi x y h ea eb p l i ed ex ey o c =
-    let f : held (pos scale -ℤ to_z w128 y) ≡ pos scale -ℤ pos y = read (pos scale -ℤ to_z w128 y) (omega (arith, ints, c)) (omega (arith, ints, c)) in
-    let g : held (pos scale -ℤ to_z w128 x) ≡ pos scale -ℤ pos x = read (pos scale -ℤ to_z w128 x) (omega (arith, ints, o, c)) (omega (arith, ints, o, c)) in
-    record {
-      whole = record { ordered = omega (arith, ints, f, g, o); low = omega (arith, ints, f, c); high = omega (arith, ints, g) };
-      value = ap (λ (z : ℤ). interval z (held (pos scale -ℤ to_z w128 x))) f ∙ ap (λ (z : ℤ). interval (pos scale -ℤ pos y) z) g ∙ (short_turn s u n k a b d lo hi x y h ea eb p l i ed ex ey).value;
     }
 
 -- ---- what the two divisions of a turn give
 pub record Turn (s : Series) (u : Interval) (k a b lo hi x y : ℕ) : Type 0 where
   pub first : pos a ≡ u.lo
   pub second : pos b ≡ u.hi
-  pub least : x ≡ a * lo / (scale * divisor s (k - 1))
-  pub greatest : pos y ≡ ceil_of (pos (b * hi)) (scale * divisor s (k - 1))
+  pub least : x ≡ a * lo / (scale * divisor s k)
+  pub greatest : pos y ≡ ceil_of (pos (b * hi)) (scale * divisor s k)
   pub below : x ≤ y
 
-pub turn : (s : Series) (u : Interval) (n k lo hi d x y : ℕ) (r q : ℤ) → IsSquare u → r ≡ u.lo → q ≡ u.hi → 1 < k → ShortNested s u n k lo hi → 2 ^ 16 * d ≡ scale * divisor s (k - 1)
+pub turn : (s : Series) (u : Interval) (k lo hi d x y : ℕ) (r q : ℤ) → IsSquare u → r ≡ u.lo → q ≡ u.hi → 1 ≤ k → lo ≤ hi → 2 ^ 16 * d ≡ scale * divisor s k
     → x ≡ nat_abs (held r) * lo / (2 ^ 16 * d) → pos y ≡ ceil_of (pos (nat_abs (held q) * hi)) (2 ^ 16 * d) → Turn s u k (nat_abs (held r)) (nat_abs (held q)) lo hi x y
-turn s u n k lo hi d x y r q h er eq p i m ex ey =
+turn s u k lo hi d x y r q h er eq p i m ex ey =
     let ea = end_cast r u.lo er h.low (omega (arith, ints, h.ordered, h.high)) in
     let eb = end_cast q u.hi eq (omega (arith, ints, h.low, h.ordered)) (omega (arith, ints, h.high)) in
     let fx = ex ∙ ap (λ (w : ℕ). nat_abs (held r) * lo / w) m in
@@ -129,5 +108,19 @@ turn s u n k lo hi d x y r q h er eq p i m ex ey =
       second = eb;
       least = fx;
       greatest = fy;
-      below = short_below (nat_abs (held r)) (nat_abs (held q)) lo hi (divisor s (k - 1)) x y (omega (arith, ints, ea, eb, h.ordered)) (short_ordered s u n k lo hi h i) (some_divisor s (k - 1) (omega (arith, p))) fx fy;
+      below = short_below (nat_abs (held r)) (nat_abs (held q)) lo hi (divisor s k) x y (omega (arith, ints, ea, eb, h.ordered)) i (some_divisor s k p) fx fy;
     }
+
+-- ---- where the products of n terms and those of one more meet, all further ones do
+same_step : (s : Series) (u : Interval) (k m n : ℕ) → nested s u (suc k) m ≡ nested s u (suc k) n → nested s u k (suc m) ≡ nested s u k (suc n)
+unfolding nested
+same_step s u k m n e = ap (λ (v : Interval). step u v (pos (divisor s k))) e
+
+pub met : (s : Series) (u : Interval) (k m n : ℕ) → nested s u (suc k) m ≡ nested s u (suc k) n → nested s u 1 (m + k) ≡ nested s u 1 (n + k)
+met s u zero m n e = ap (nested s u 1) (omega arith) ∙ e ∙ ap (nested s u 1) (omega arith)
+met s u (suc k) m n e = ap (nested s u 1) (omega arith) ∙ met s u k (suc m) (suc n) (same_step s u (suc k) m n e) ∙ ap (nested s u 1) (omega arith)
+
+pub meet_first : (s : Series) (u : Interval) (n k lo hi : ℕ) → k ≤ n → ShortNested s u n k lo hi → ShortNested s u (n + 1) k lo hi → nested s u 1 (n - 1) ≡ nested s u 1 n
+meet_first s u n zero lo hi h i j = absurd (omega (arith, i.some))
+meet_first s u n (suc k) lo hi h i j =
+    ap (nested s u 1) (omega (arith, h)) ∙ met s u k (n - suc k) (n + 1 - suc k) (sym i.value ∙ j.value) ∙ ap (nested s u 1) (omega (arith, h))

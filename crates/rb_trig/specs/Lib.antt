@@ -3,3 +3,4 @@
 pub mod Ends
 pub mod Sine
 pub mod Axis
+pub mod Short

@@ -1,6 +1,8 @@
-ghost use Rattle.std.specs.Prelude.{◌≡◌, ℕ, ℤ, Some, codes, pos, ◌-◌, ◌≤◌, ◌^◌, ◌<◌, ◌<ℤ◌, ◌↔◌, IfOk, IsErr};
+ghost use Rattle.std.specs.Prelude.{◌≡◌, ℕ, ℤ, Some, codes, pos, ◌-◌, ◌≤◌, ◌^◌, ◌<◌, ◌<ℤ◌, ◌+◌, ◌↔◌, IfOk, IfSome, IsErr};
+ghost use Rattle.rb_num.specs.declared.terms.TheConstants.{TERMS};
 ghost use Rattle.rb_num.specs.Dot.{ProductsFit};
-ghost use Rattle.rb_trig.specs.Sine.{divisor as divisor_of, nested as nested_of, step as step_of, square_of, IsSquare, IsAngle, sines, cosines, sin_cos_of, Encloses};
+ghost use Rattle.rb_trig.specs.Short.{ShortNested};
+ghost use Rattle.rb_trig.specs.Sine.{scale, divisor as divisor_of, nested as nested_of, step as step_of, square_of, IsSquare, IsAngle, sines, cosines, sin_cos_of, Encloses};
 
 use crate::dividers::divider;
 use crate::ends::{clamp, outward, products, squares};
@@ -14,9 +16,6 @@ pub const ANGLE_LIMIT: i128 = 8 * S;
 
 /// The nested products count parts of one in this number.
 pub const T: i128 = 10_000_000_000_000_000;
-
-// The greatest number of terms that are summed in 64 bits.
-const SHORT_TERMS: u64 = TERMS + 1;
 
 /// An end of the angle is larger in size than `ANGLE_LIMIT`.
 #[derive(Clone, Copy, Debug, PartialEq, Eq)]
@@ -54,51 +53,107 @@ impl Series {
         }
     }
 
-    // The nested products from the last term down to the first one with a negative end, in 64 bits; and
-    // which term that is.
+    // A step of the nested products in 64 bits, to the term `k`: `None` where an end would be negative.
     #[inline(always)]
-    fn short_nested(self, square: Iv, terms: u64) -> (u64, Iv)
+    fn turned(self, square: Iv, k: u64, lo: u64, hi: u64) -> Option<(u64, u64)>
         requires square { IsSquare square }
-        requires some { 1 ≤ terms }
-        requires few { terms < 2 ^ 30 }
+        requires low { 1 ≤ k }
+        requires high { k ≤ TERMS }
+        requires ordered { lo ≤ hi }
+        requires within { hi ≤ scale }
+        ensures nested { (terms : ℕ) → k < terms → ShortNested self square terms (k + 1) lo hi → IfSome result (λ ends. ShortNested self square terms k ends.0 ends.1) }
+        ensures ordered { IfSome result (λ ends. ends.0 ≤ ends.1) }
+        ensures within { IfSome result (λ ends. ends.1 ≤ scale) }
+    {
+        let (by, reciprocal) = divider(self, k);
+        let least = part_down(square.lo() as u64, lo, by, reciprocal);
+        let greatest = part_up(square.hi() as u64, hi, by, reciprocal);
+        if (T as u64) < greatest {
+            None
+        } else {
+            Some((T as u64 - greatest, T as u64 - least))
+        }
+    }
+
+    // Where the nested products of `TERMS` terms and those of one more meet, from the last term down: the
+    // term, and the ends of both.
+    #[inline(always)]
+    fn meeting(self, square: Iv) -> Option<(u64, u64, u64)>
+        requires square { IsSquare square }
+        ensures few { IfSome result (λ met. ShortNested self square TERMS met.0 met.1 met.2) }
+        ensures more { IfSome result (λ met. ShortNested self square (TERMS + 1) met.0 met.1 met.2) }
+        ensures last { IfSome result (λ met. met.0 ≤ TERMS) }
+    {
+        let (mut few_lo, mut few_hi) = (T as u64, T as u64);
+        let (mut lo, mut hi) = self.turned(square, TERMS, few_lo, few_hi)?;
+        for k in (1..TERMS).rev() {
+            (few_lo, few_hi) = self.turned(square, k, few_lo, few_hi)?;
+            (lo, hi) = self.turned(square, k, lo, hi)?;
+            if few_lo == lo && few_hi == hi {
+                return Some((k, lo, hi));
+            }
+        }
+        None
+    }
+
+    // The nested products from the term `last` down to the first one with a negative end, in 64 bits; and
+    // the term before that.
+    #[inline(always)]
+    fn short_nested(self, square: Iv, terms: u64, last: u64, lo: u64, hi: u64) -> (u64, Iv)
+        requires square { IsSquare square }
+        requires few { terms ≤ TERMS + 1 }
+        requires within { last ≤ terms }
+        requires nested { ShortNested self square terms last lo hi }
         ensures some { 1 ≤ result.0 }
-        ensures few { result.0 ≤ terms }
+        ensures few { result.0 ≤ last }
         ensures value { result.1 ≡ nested_of self square result.0 (terms - result.0) }
     {
-        if SHORT_TERMS < terms {
-            return (terms, Iv::new(T, T));
-        }
-        let (low, high) = (square.lo() as u64, square.hi() as u64);
-        let mut lo = T as u64;
-        let mut hi = T as u64;
-        for k in (1..terms).rev() {
-            let (by, reciprocal) = divider(self, k);
-            let least = part_down(low, lo, by, reciprocal);
-            let greatest = part_up(high, hi, by, reciprocal);
-            if (T as u64) < greatest {
-                return (k, Iv::new(T - greatest as i128, T - least as i128));
+        let (mut lo, mut hi) = (lo, hi);
+        for k in (1..last).rev() {
+            match self.turned(square, k, lo, hi) {
+                Some(ends) => (lo, hi) = ends,
+                None => return (k + 1, Iv::new(lo as i128, hi as i128)),
             }
-            lo = T as u64 - greatest;
-            hi = T as u64 - least;
         }
         (1, Iv::new(lo as i128, hi as i128))
     }
 
-    // The sum of this many terms, by nested products; the sine's is without its first factor, the
-    // angle. The square of the angle and the result count parts of `T`.
+    // The sum of this many terms, by nested products, of which those from the term `last` on are known; the
+    // sine's is without its first factor, the angle. The square of the angle and the result count parts of
+    // `T`.
     #[inline(always)]
-    fn nested(self, square: Iv, terms: u64) -> Iv
+    fn nested(self, square: Iv, terms: u64, last: u64, lo: u64, hi: u64) -> Iv
         requires square { IsSquare square }
-        requires some { 1 ≤ terms }
-        requires few { terms < 2 ^ 30 }
+        requires few { terms ≤ TERMS + 1 }
+        requires within { last ≤ terms }
+        requires nested { ShortNested self square terms last lo hi }
         ensures { result ≡ nested_of self square 1 (terms - 1) }
     {
-        let (last, start) = self.short_nested(square, terms);
+        let (last, start) = self.short_nested(square, terms, last, lo, hi);
         let mut sum = start;
         for k in (1..last).rev() {
             sum = step(square, sum, self.divisor(k));
         }
         sum
+    }
+
+    // The sums of `TERMS` terms and of one more. From where they meet they are one.
+    #[inline(always)]
+    fn both(self, square: Iv) -> (Iv, Iv)
+        requires { IsSquare square }
+        ensures few { result.0 ≡ nested_of self square 1 (TERMS - 1) }
+        ensures more { result.1 ≡ nested_of self square 1 TERMS }
+    {
+        match self.meeting(square) {
+            Some((last, lo, hi)) => {
+                let sum = self.nested(square, TERMS, last, lo, hi);
+                (sum, sum)
+            }
+            None => (
+                self.nested(square, TERMS, TERMS, T as u64, T as u64),
+                self.nested(square, TERMS + 1, TERMS + 1, T as u64, T as u64),
+            ),
+        }
     }
 }
 
@@ -115,27 +170,24 @@ fn step(square: Iv, sum: Iv, divisor: i128) -> Iv
     Iv::new(T - part.hi(), T - part.lo())
 }
 
-// The sine's sum of this many terms.
+// The sine's sum of this many terms, by their nested products.
 #[inline(always)]
-fn sine(angle: Iv, square: Iv, terms: u64) -> Iv
+fn sine(angle: Iv, square: Iv, terms: u64, nested: Iv) -> Iv
     requires angle { IsAngle angle }
     requires square { IsSquare square }
-    requires some { 1 ≤ terms }
-    requires few { terms < 2 ^ 30 }
+    requires nested { nested ≡ nested_of Series.Sine square 1 (terms - 1) }
     ensures { result ≡ sines angle square terms }
 {
-    outward_by_scale(products(angle, Series::Sine.nested(square, terms)))
+    outward_by_scale(products(angle, nested))
 }
 
-// The cosine's sum of this many terms.
+// The cosine's sum of this many terms, by their nested products.
 #[inline(always)]
-fn cosine(square: Iv, terms: u64) -> Iv
-    requires square { IsSquare square }
-    requires some { 1 ≤ terms }
-    requires few { terms < 2 ^ 30 }
+fn cosine(square: Iv, terms: u64, nested: Iv) -> Iv
+    requires { nested ≡ nested_of Series.Cosine square 1 (terms - 1) }
     ensures { result ≡ cosines square terms }
 {
-    outward_by_small(Series::Cosine.nested(square, terms), T / S)
+    outward_by_small(nested, T / S)
 }
 
 // The square of the angle, in parts of `T`.
@@ -161,8 +213,10 @@ pub fn sin_cos(angle: Iv) -> Result<(Iv, Iv), AngleRange>
         return Err(AngleRange);
     }
     let square = square(angle);
-    let sines = sine(angle, square, TERMS).hull(sine(angle, square, TERMS + 1));
-    let cosines = cosine(square, TERMS).hull(cosine(square, TERMS + 1));
+    let (few, more) = Series::Sine.both(square);
+    let sines = sine(angle, square, TERMS, few).hull(sine(angle, square, TERMS + 1, more));
+    let (few, more) = Series::Cosine.both(square);
+    let cosines = cosine(square, TERMS, few).hull(cosine(square, TERMS + 1, more));
     Ok((clamp(sines), clamp(cosines)))
 }
 

@@ -6,4 +6,4 @@ use Rattle.rb_trig.proofs.sine.cosine.Goals as goal
 
 pub returns : goal.returns
 unfolding cosines
-returns c = c.outward_by_small.ensures ∙ ap (λ (v : Interval). outward v (pos 10000)) c.nested.ensures
+returns c = c.outward_by_small.ensures ∙ ap (λ (v : Interval). outward v (pos 10000)) c.requires

@@ -1,4 +1,4 @@
-use Rattle.rb_trig.proofs.Short.{ShortNested}
+use Rattle.rb_trig.specs.Short.{ShortNested}
 use Rattle.rb_trig.proofs.sine.Series.short_nested.Given as goal
 
 abbrev pub invariant-loop-k : goal.invariant-loop-k
