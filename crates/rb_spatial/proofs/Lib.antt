@@ -3,3 +3,5 @@ pub mod Enclosure
 pub mod Identities
 pub mod Entries
 pub mod Outer
+pub mod Seen
+pub mod Body

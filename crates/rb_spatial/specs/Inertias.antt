@@ -7,7 +7,7 @@ use Rattle.rb_num.specs.Interval.{Interval}
 use Rattle.rb_num.specs.Fraction.{LiesIn}
 use Rattle.rb_num.specs.Arith.{Arith, fractions, signs_of}
 use Rattle.rb_spatial.specs.Encloses.{Encloses, EnclosesTwo, EnclosesThree}
-use Rattle.rb_spatial.specs.Motions.{six_pairs, three, three_rows, six, two, sum_vector}
+use Rattle.rb_spatial.specs.Motions.{pairs, six_pairs, three, three_rows, six, two, sum_vector}
 
 module _ (R : Arith) where
   abbrev pub blocks : R.M (Symmetric R.N) → R.M (Table R.N) → R.M (Symmetric R.N) → R.M (Inertia R.N)
@@ -28,6 +28,22 @@ module _ (R : Arith) where
 
   unfoldable pub times : Inertia R.N → Motion R.N → R.M (Force R.N)
   times i m = two R (mul_both (full i.a) i.b m.lin m.ang) (mul_both (transpose i.b) (full i.c) m.lin m.ang)
+
+  -- the two parts of a body's force: m lin + ang x h, and h x lin + J ang
+  unfoldable pub body_force : BodyInertia R.N → Motion R.N → R.M (V3 R.N)
+  body_force i m =
+      three R
+      (R.dot ((i.mass, m.lin.x) ∷ (i.first.z, m.ang.y) ∷ (R.neg i.first.y, m.ang.z) ∷ []))
+      (R.dot ((i.mass, m.lin.y) ∷ (R.neg i.first.z, m.ang.x) ∷ (i.first.x, m.ang.z) ∷ []))
+      (R.dot ((i.mass, m.lin.z) ∷ (i.first.y, m.ang.x) ∷ (R.neg i.first.x, m.ang.y) ∷ []))
+
+  unfoldable pub body_moment : BodyInertia R.N → Motion R.N → R.M (V3 R.N)
+  body_moment i m =
+      let six = full i.six in
+      three R
+      (R.dot ((R.neg i.first.z, m.lin.y) ∷ (i.first.y, m.lin.z) ∷ pairs six.x m.ang))
+      (R.dot ((i.first.z, m.lin.x) ∷ (R.neg i.first.x, m.lin.z) ∷ pairs six.y m.ang))
+      (R.dot ((R.neg i.first.y, m.lin.x) ∷ (i.first.x, m.lin.y) ∷ pairs six.z m.ang))
 
   unfoldable pub sum_table : Table R.N → Table R.N → R.M (Table R.N)
   sum_table s t = three_rows R (sum_vector R s.x t.x) (sum_vector R s.y t.y) (sum_vector R s.z t.z)
@@ -74,6 +90,10 @@ EnclosesTable i r = Encloses (BodyInertias LiesIn) (Inertias LiesIn) (table frac
 
 abbrev pub EnclosesTimes : Inertia Interval → Motion Interval → Force Interval → Type 0
 EnclosesTimes i m r = EnclosesTwo (Inertias LiesIn) (Motions LiesIn) (Forces LiesIn) (times fractions) i m r
+
+abbrev pub EnclosesTimesBody : BodyInertia Interval → Motion Interval → Force Interval → Type 0
+EnclosesTimesBody i m r =
+    EnclosesTwo (BodyInertias LiesIn) (Motions LiesIn) (Forces LiesIn) (λ p q. times fractions (table fractions p) q) i m r
 
 abbrev pub EnclosesSum : Inertia Interval → Inertia Interval → Inertia Interval → Type 0
 EnclosesSum i j r = EnclosesTwo (Inertias LiesIn) (Inertias LiesIn) (Inertias LiesIn) (sum fractions) i j r

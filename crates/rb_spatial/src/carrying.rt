@@ -1,5 +1,6 @@
-ghost use Rattle.std.specs.Prelude.{◌≡◌, IfOk, IfErr};
+ghost use Rattle.std.specs.Prelude.{◌≡◌, Ok, IfOk, IfErr, IfSome};
 ghost use Rattle.rb_num.specs.Arith.{intervals};
+ghost use Rattle.rb_frac.specs.Tables.{transpose};
 ghost use Rattle.rb_num.specs.Dot.{iv_dot};
 ghost use Rattle.rb_spatial.specs.Carrying.{EnclosesProduct, EnclosesUpperProduct, EnclosesCarry};
 ghost use Rattle.rb_spatial.specs.Motions.{pairs};
@@ -11,7 +12,8 @@ ghost use Rattle.rb_spatial.specs.Carrying.{turn_symmetric as turn_symmetric_of,
 
 use crate::inertias::Inertia6;
 use crate::motions::Place;
-use crate::vectors::{Mat3, Sym3, Vec3};
+use crate::near::{near_corrected, near_dot, near_less_dot};
+use crate::vectors::{Lent, Mat3, Sym3, Vec3};
 use rb_num::{Iv, NumFault, dot};
 
 #[inline(always)]
@@ -36,10 +38,46 @@ fn row_mul(v: &Vec3, columns: &Mat3) -> Result<Vec3, NumFault>
 
 /// The product of two tables, a sum of three products for each entry. It is refused with `Size`
 /// exactly where one of these is.
-#[tactic(auto, unfolding(crate::specs::Carrying::product))]
+#[tactic(auto, using(crate::proofs::Enclosure::product_encloses))]
 pub fn product(s: &Mat3, t: &Mat3) -> Result<Mat3, NumFault>
     ensures exact { result ≡ product_of intervals s.now t.now }
     ensures encloses { IfOk result (EnclosesProduct s.now t.now) }
+    ensures size { IfErr result (λ e. e ≡ NumFault.Size) }
+{
+    match near_product(s, t) {
+        Some(product) => Ok(product),
+        None => far_product(s, t),
+    }
+}
+
+// The row times the table.
+#[inline(always)]
+#[tactic(auto, unfolding(crate::specs::Carrying::row_mul))]
+fn near_row_mul(v: &Lent<'_>, t: &Mat3) -> Option<Vec3>
+    ensures { IfSome result (λ w. row_mul_of intervals v.now (transpose t.now) ≡ Ok w) }
+{
+    let x = near_dot(v, &t.column_x())?;
+    let y = near_dot(v, &t.column_y())?;
+    let z = near_dot(v, &t.column_z())?;
+    Some(Vec3::new(x, y, z))
+}
+
+#[inline(always)]
+#[tactic(auto, unfolding(crate::specs::Carrying::product))]
+fn near_product(s: &Mat3, t: &Mat3) -> Option<Mat3>
+    ensures { IfSome result (λ p. product_of intervals s.now t.now ≡ Ok p) }
+{
+    let x = near_row_mul(&s.row_x(), t)?;
+    let y = near_row_mul(&s.row_y(), t)?;
+    let z = near_row_mul(&s.row_z(), t)?;
+    Some(Mat3::new(x, y, z))
+}
+
+#[cold]
+#[inline(never)]
+#[tactic(auto, unfolding(crate::specs::Carrying::product))]
+fn far_product(s: &Mat3, t: &Mat3) -> Result<Mat3, NumFault>
+    ensures exact { result ≡ product_of intervals s.now t.now }
     ensures size { IfErr result (λ e. e ≡ NumFault.Size) }
 {
     let columns = t.transpose();
@@ -52,10 +90,39 @@ pub fn product(s: &Mat3, t: &Mat3) -> Result<Mat3, NumFault>
 /// The entries on and above the diagonal of a product that is symmetric, from the columns of its
 /// second factor, each a sum of three products. It is refused with `Size` exactly where one of these
 /// is.
-#[tactic(auto, unfolding(crate::specs::Carrying::upper_product))]
+#[tactic(auto, using(crate::proofs::Enclosure::upper_product_encloses))]
 pub fn upper_product(s: &Mat3, columns: &Mat3) -> Result<Sym3, NumFault>
     ensures exact { result ≡ upper_product_of intervals s.now columns.now }
     ensures encloses { IfOk result (EnclosesUpperProduct s.now columns.now) }
+    ensures size { IfErr result (λ e. e ≡ NumFault.Size) }
+{
+    match near_upper_product(s, columns) {
+        Some(product) => Ok(product),
+        None => far_upper_product(s, columns),
+    }
+}
+
+#[inline(always)]
+#[tactic(auto, unfolding(crate::specs::Carrying::upper_product))]
+fn near_upper_product(s: &Mat3, columns: &Mat3) -> Option<Sym3>
+    ensures { IfSome result (λ p. upper_product_of intervals s.now columns.now ≡ Ok p) }
+{
+    let (x, y, z) = (columns.row_x(), columns.row_y(), columns.row_z());
+    Some(Sym3 {
+        xx: near_dot(&s.row_x(), &x)?,
+        xy: near_dot(&s.row_x(), &y)?,
+        xz: near_dot(&s.row_x(), &z)?,
+        yy: near_dot(&s.row_y(), &y)?,
+        yz: near_dot(&s.row_y(), &z)?,
+        zz: near_dot(&s.row_z(), &z)?,
+    })
+}
+
+#[cold]
+#[inline(never)]
+#[tactic(auto, unfolding(crate::specs::Carrying::upper_product))]
+fn far_upper_product(s: &Mat3, columns: &Mat3) -> Result<Sym3, NumFault>
+    ensures exact { result ≡ upper_product_of intervals s.now columns.now }
     ensures size { IfErr result (λ e. e ≡ NumFault.Size) }
 {
     let xx = dot_three(&s.x(), &columns.x())?;
@@ -100,9 +167,33 @@ fn less_row(b: &Vec3, v: &Vec3, columns: &Mat3) -> Result<Vec3, NumFault>
     Ok(Vec3::new(x, y, z))
 }
 
-// b - a r
+// b - v t, where v is a row.
+#[inline(always)]
+#[tactic(auto, unfolding(crate::specs::Carrying::less_row))]
+fn near_less_row(b: &Lent<'_>, v: &Lent<'_>, t: &Mat3) -> Option<Vec3>
+    ensures { IfSome result (λ w. less_row_of intervals b.now v.now (transpose t.now) ≡ Ok w) }
+{
+    let x = near_less_dot(b.x, v, &t.column_x())?;
+    let y = near_less_dot(b.y, v, &t.column_y())?;
+    let z = near_less_dot(b.z, v, &t.column_z())?;
+    Some(Vec3::new(x, y, z))
+}
+
+#[inline(always)]
 #[tactic(auto, unfolding(crate::specs::Carrying::less_product))]
-fn less_product(b: &Mat3, a: &Mat3, r: &Mat3) -> Result<Mat3, NumFault>
+fn near_less_product(b: &Mat3, a: &Mat3, r: &Mat3) -> Option<Mat3>
+    ensures { IfSome result (λ p. less_product_of intervals b.now a.now r.now ≡ Ok p) }
+{
+    let x = near_less_row(&b.row_x(), &a.row_x(), r)?;
+    let y = near_less_row(&b.row_y(), &a.row_y(), r)?;
+    let z = near_less_row(&b.row_z(), &a.row_z(), r)?;
+    Some(Mat3::new(x, y, z))
+}
+
+#[cold]
+#[inline(never)]
+#[tactic(auto, unfolding(crate::specs::Carrying::less_product))]
+fn far_less_product(b: &Mat3, a: &Mat3, r: &Mat3) -> Result<Mat3, NumFault>
     ensures exact { result ≡ less_product_of intervals b.now a.now r.now }
     ensures size { IfErr result (λ e. e ≡ NumFault.Size) }
 {
@@ -111,6 +202,17 @@ fn less_product(b: &Mat3, a: &Mat3, r: &Mat3) -> Result<Mat3, NumFault>
     let y = less_row(&b.y(), &a.y(), &columns)?;
     let z = less_row(&b.z(), &a.z(), &columns)?;
     Ok(Mat3::new(x, y, z))
+}
+
+// b - a r
+fn less_product(b: &Mat3, a: &Mat3, r: &Mat3) -> Result<Mat3, NumFault>
+    ensures exact { result ≡ less_product_of intervals b.now a.now r.now }
+    ensures size { IfErr result (λ e. e ≡ NumFault.Size) }
+{
+    match near_less_product(b, a, r) {
+        Some(rest) => Ok(rest),
+        None => far_less_product(b, a, r),
+    }
 }
 
 // c + u p - w q
@@ -132,8 +234,42 @@ fn corrected(c: Iv, u: &Vec3, p: &Vec3, w: &Vec3, q: &Vec3) -> Result<Iv, NumFau
 
 // c + r B - B1^T r on and above the diagonal: `b`, `b1` and `columns` have the columns of B, B1
 // and `r`.
-#[tactic(auto, unfolding(crate::specs::Carrying::correct))]
 fn correct(c: &Sym3, r: &Mat3, b: &Mat3, b1: &Mat3, columns: &Mat3) -> Result<Sym3, NumFault>
+    ensures exact { result ≡ correct_of intervals c.now r.now b.now b1.now columns.now }
+    ensures size { IfErr result (λ e. e ≡ NumFault.Size) }
+{
+    match near_correct(c, r, b, b1, columns) {
+        Some(sum) => Ok(sum),
+        None => far_correct(c, r, b, b1, columns),
+    }
+}
+
+#[inline(always)]
+#[tactic(auto, unfolding(crate::specs::Carrying::correct))]
+fn near_correct(c: &Sym3, r: &Mat3, b: &Mat3, b1: &Mat3, columns: &Mat3) -> Option<Sym3>
+    ensures { IfSome result (λ s. correct_of intervals c.now r.now b.now b1.now columns.now ≡ Ok s) }
+{
+    let (x, y, z) = (columns.row_x(), columns.row_y(), columns.row_z());
+    let xx = near_corrected(&c.xx, &r.row_x(), &b.row_x(), &b1.row_x(), &x)?;
+    let xy = near_corrected(&c.xy, &r.row_x(), &b.row_y(), &b1.row_x(), &y)?;
+    let xz = near_corrected(&c.xz, &r.row_x(), &b.row_z(), &b1.row_x(), &z)?;
+    let yy = near_corrected(&c.yy, &r.row_y(), &b.row_y(), &b1.row_y(), &y)?;
+    let yz = near_corrected(&c.yz, &r.row_y(), &b.row_z(), &b1.row_y(), &z)?;
+    let zz = near_corrected(&c.zz, &r.row_z(), &b.row_z(), &b1.row_z(), &z)?;
+    Some(Sym3 {
+        xx,
+        xy,
+        xz,
+        yy,
+        yz,
+        zz,
+    })
+}
+
+#[cold]
+#[inline(never)]
+#[tactic(auto, unfolding(crate::specs::Carrying::correct))]
+fn far_correct(c: &Sym3, r: &Mat3, b: &Mat3, b1: &Mat3, columns: &Mat3) -> Result<Sym3, NumFault>
     ensures exact { result ≡ correct_of intervals c.now r.now b.now b1.now columns.now }
     ensures size { IfErr result (λ e. e ≡ NumFault.Size) }
 {

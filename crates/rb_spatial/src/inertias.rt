@@ -1,16 +1,19 @@
-ghost use Rattle.std.specs.Prelude.{◌≡◌, ◌<◌, IfOk, IfErr};
+ghost use Rattle.std.specs.Prelude.{◌≡◌, ◌<◌, Ok, IfOk, IfErr, IfSome};
 ghost use Rattle.rb_num.specs.Arith.{intervals};
 ghost use Rattle.rb_num.specs.Dot.{iv_dot};
+ghost use Rattle.rb_frac.specs.Tables.{full as full_of};
 ghost use Rattle.rb_frac.specs.Spatial.{entry as entry_of};
 ghost use Rattle.rb_spatial.specs.Vectors.{symmetric_of};
-ghost use Rattle.rb_spatial.specs.Inertias.{EnclosesEntry, EnclosesTable, EnclosesTimes, EnclosesSum, EnclosesLessOuter};
+ghost use Rattle.rb_spatial.specs.Inertias.{EnclosesEntry, EnclosesTable, EnclosesTimes, EnclosesTimesBody, EnclosesSum, EnclosesLessOuter};
 ghost use Rattle.rb_spatial.specs.Motions.{six_pairs};
+ghost use Rattle.rb_spatial.specs.Inertias.{body_force, body_moment};
 ghost use Rattle.rb_spatial.specs.Inertias.{mul_both as mul_both_of, table as table_of_body, times as times_of};
 ghost use Rattle.rb_spatial.specs.Inertias.{sum_table as sum_table_of, sum_symmetric as sum_symmetric_of, sum as sum_of};
 ghost use Rattle.rb_spatial.specs.Inertias.{less as less_of, less_vector as less_vector_of, less_table as less_table_of, less_symmetric as less_symmetric_of, less_outer as less_outer_of};
 
 use crate::motions::{Force, Motion, sum_vector};
-use crate::vectors::{Mat3, Sym3, Vec3};
+use crate::near::{near_dots, near_less, near_three, near_three_back, near_turn, near_turn_back};
+use crate::vectors::{Lent, Mat3, Sym3, Vec3};
 use rb_num::{Iv, NumFault, dot};
 use std::marker::Model;
 
@@ -59,6 +62,42 @@ impl BodyInertia {
             yy: self.six[3],
             yz: self.six[4],
             zz: self.six[5],
+        }
+    }
+
+    /// The first row of the rotational inertia where it stands.
+    #[inline(always)]
+    fn row_x(&self) -> Lent<'_>
+        ensures { result ≡ (full_of self.now.six).x }
+    {
+        Lent {
+            x: &self.six[0],
+            y: &self.six[1],
+            z: &self.six[2],
+        }
+    }
+
+    /// The second row of the rotational inertia where it stands.
+    #[inline(always)]
+    fn row_y(&self) -> Lent<'_>
+        ensures { result ≡ (full_of self.now.six).y }
+    {
+        Lent {
+            x: &self.six[1],
+            y: &self.six[3],
+            z: &self.six[4],
+        }
+    }
+
+    /// The third row of the rotational inertia where it stands.
+    #[inline(always)]
+    fn row_z(&self) -> Lent<'_>
+        ensures { result ≡ (full_of self.now.six).z }
+    {
+        Lent {
+            x: &self.six[2],
+            y: &self.six[4],
+            z: &self.six[5],
         }
     }
 }
@@ -155,15 +194,101 @@ fn mul_both(s: &Mat3, t: &Mat3, u: &Vec3, w: &Vec3) -> Result<Vec3, NumFault>
 
 /// The force of the motion: the table times the vector, a sum of six products for each part. It is
 /// refused with `Size` exactly where one of these is.
-#[tactic(auto, unfolding(crate::specs::Inertias::times))]
+#[tactic(auto, using(crate::proofs::Enclosure::times_encloses))]
 pub fn times(i: &Inertia6, m: &Motion) -> Result<Force, NumFault>
     ensures exact { result ≡ times_of intervals i.now m.now }
     ensures encloses { IfOk result (EnclosesTimes i.now m.now) }
     ensures size { IfErr result (λ e. e ≡ NumFault.Size) }
 {
+    match near_times(i, m) {
+        Some(force) => Ok(force),
+        None => far_times(i, m),
+    }
+}
+
+#[inline(always)]
+#[tactic(auto, unfolding(crate::specs::Inertias::times, crate::specs::Inertias::mul_both))]
+fn near_times(i: &Inertia6, m: &Motion) -> Option<Force>
+    ensures { IfSome result (λ f. times_of intervals i.now m.now ≡ Ok f) }
+{
+    let (u, w) = (m.lin.lend(), m.ang.lend());
+    let x = near_dots(&i.a.row_x(), &u, &i.b.row_x(), &w)?;
+    let y = near_dots(&i.a.row_y(), &u, &i.b.row_y(), &w)?;
+    let z = near_dots(&i.a.row_z(), &u, &i.b.row_z(), &w)?;
+    let lin = Vec3::new(x, y, z);
+    let x = near_dots(&i.b.column_x(), &u, &i.c.row_x(), &w)?;
+    let y = near_dots(&i.b.column_y(), &u, &i.c.row_y(), &w)?;
+    let z = near_dots(&i.b.column_z(), &u, &i.c.row_z(), &w)?;
+    let ang = Vec3::new(x, y, z);
+    Some(Force { lin, ang })
+}
+
+#[cold]
+#[inline(never)]
+#[tactic(auto, unfolding(crate::specs::Inertias::times))]
+fn far_times(i: &Inertia6, m: &Motion) -> Result<Force, NumFault>
+    ensures exact { result ≡ times_of intervals i.now m.now }
+    ensures size { IfErr result (λ e. e ≡ NumFault.Size) }
+{
     let lin = mul_both(&i.a.full(), &i.b, &m.lin, &m.ang)?;
     let ang = mul_both(&i.b.transpose(), &i.c.full(), &m.lin, &m.ang)?;
     Ok(Force { lin, ang })
+}
+
+/// The force of a body's inertia at a motion, as `times` of its table has it: without the products
+/// of the zeros there, a sum of three products for each linear part and of five for each angular one.
+#[tactic(auto, using(crate::proofs::Enclosure::times_body_encloses))]
+pub fn times_body(i: &BodyInertia, m: &Motion) -> Result<Force, NumFault>
+    ensures exact { result ≡ times_of intervals (table_of_body intervals i.now) m.now }
+    ensures encloses { IfOk result (EnclosesTimesBody i.now m.now) }
+    ensures size { IfErr result (λ e. e ≡ NumFault.Size) }
+{
+    match near_times_body(i, m) {
+        Some(force) => Ok(force),
+        None => far_times_body(i, m),
+    }
+}
+
+#[inline(always)]
+#[tactic(auto, unfolding(crate::specs::Inertias::body_force))]
+fn near_body_force(i: &BodyInertia, m: &Motion) -> Option<Vec3>
+    ensures { IfSome result (λ f. body_force intervals i.now m.now ≡ Ok f) }
+{
+    let (h, u, w) = (i.first.lend(), m.lin.lend(), m.ang.lend());
+    let x = near_three(&i.mass, u.x, h.z, w.y, h.y, w.z)?;
+    let y = near_three_back(&i.mass, u.y, h.z, w.x, h.x, w.z)?;
+    let z = near_three(&i.mass, u.z, h.y, w.x, h.x, w.y)?;
+    Some(Vec3::new(x, y, z))
+}
+
+#[inline(always)]
+#[tactic(auto, unfolding(crate::specs::Inertias::body_moment))]
+fn near_body_moment(i: &BodyInertia, m: &Motion) -> Option<Vec3>
+    ensures { IfSome result (λ n. body_moment intervals i.now m.now ≡ Ok n) }
+{
+    let (h, u, w) = (i.first.lend(), m.lin.lend(), m.ang.lend());
+    let x = near_turn_back(h.z, u.y, h.y, u.z, &i.row_x(), &w)?;
+    let y = near_turn(h.z, u.x, h.x, u.z, &i.row_y(), &w)?;
+    let z = near_turn_back(h.y, u.x, h.x, u.y, &i.row_z(), &w)?;
+    Some(Vec3::new(x, y, z))
+}
+
+#[inline(always)]
+fn near_times_body(i: &BodyInertia, m: &Motion) -> Option<Force>
+    ensures { IfSome result (λ f. times_of intervals (table_of_body intervals i.now) m.now ≡ Ok f) }
+{
+    let lin = near_body_force(i, m)?;
+    let ang = near_body_moment(i, m)?;
+    Some(Force { lin, ang })
+}
+
+#[cold]
+#[inline(never)]
+fn far_times_body(i: &BodyInertia, m: &Motion) -> Result<Force, NumFault>
+    ensures exact { result ≡ times_of intervals (table_of_body intervals i.now) m.now }
+    ensures size { IfErr result (λ e. e ≡ NumFault.Size) }
+{
+    times(&table(i), m)
 }
 
 #[tactic(auto, unfolding(crate::specs::Inertias::sum_table))]
@@ -267,16 +392,85 @@ fn less_symmetric(i: &Sym3, u: &Vec3, w: &Vec3) -> Result<Sym3, NumFault>
     })
 }
 
-/// The table less the outer product of `u` and `w`, of which the entries on and above the
-/// diagonal are taken. It is refused with `Size` exactly where one of these is.
+#[inline(always)]
+#[tactic(auto, unfolding(crate::specs::Inertias::less_vector))]
+fn near_less_vector(i: &Lent<'_>, u: &Iv, w: &Lent<'_>) -> Option<Vec3>
+    ensures { IfSome result (λ v. less_vector_of intervals i.now u.now w.now ≡ Ok v) }
+{
+    let x = near_less(i.x, u, w.x)?;
+    let y = near_less(i.y, u, w.y)?;
+    let z = near_less(i.z, u, w.z)?;
+    Some(Vec3::new(x, y, z))
+}
+
+#[inline(always)]
+#[tactic(auto, unfolding(crate::specs::Inertias::less_table))]
+fn near_less_table(i: &Mat3, u: &Vec3, w: &Vec3) -> Option<Mat3>
+    ensures { IfSome result (λ t. less_table_of intervals i.now u.now w.now ≡ Ok t) }
+{
+    let (u, w) = (u.lend(), w.lend());
+    let x = near_less_vector(&i.row_x(), u.x, &w)?;
+    let y = near_less_vector(&i.row_y(), u.y, &w)?;
+    let z = near_less_vector(&i.row_z(), u.z, &w)?;
+    Some(Mat3::new(x, y, z))
+}
+
+#[inline(always)]
+#[tactic(auto, unfolding(crate::specs::Inertias::less_symmetric))]
+fn near_less_symmetric(i: &Sym3, u: &Vec3, w: &Vec3) -> Option<Sym3>
+    ensures { IfSome result (λ s. less_symmetric_of intervals i.now u.now w.now ≡ Ok s) }
+{
+    let (u, w) = (u.lend(), w.lend());
+    let xx = near_less(&i.xx, u.x, w.x)?;
+    let xy = near_less(&i.xy, u.x, w.y)?;
+    let xz = near_less(&i.xz, u.x, w.z)?;
+    let yy = near_less(&i.yy, u.y, w.y)?;
+    let yz = near_less(&i.yz, u.y, w.z)?;
+    let zz = near_less(&i.zz, u.z, w.z)?;
+    Some(Sym3 {
+        xx,
+        xy,
+        xz,
+        yy,
+        yz,
+        zz,
+    })
+}
+
+#[inline(always)]
 #[tactic(auto, unfolding(crate::specs::Inertias::less_outer))]
-pub fn less_outer(i: &Inertia6, u: &Force, w: &Force) -> Result<Inertia6, NumFault>
+fn near_less_outer(i: &Inertia6, u: &Force, w: &Force) -> Option<Inertia6>
+    ensures { IfSome result (λ r. less_outer_of intervals i.now u.now w.now ≡ Ok r) }
+{
+    let a = near_less_symmetric(&i.a, &u.lin, &w.lin)?;
+    let b = near_less_table(&i.b, &u.lin, &w.ang)?;
+    let c = near_less_symmetric(&i.c, &u.ang, &w.ang)?;
+    Some(Inertia6 { a, b, c })
+}
+
+#[cold]
+#[inline(never)]
+#[tactic(auto, unfolding(crate::specs::Inertias::less_outer))]
+fn far_less_outer(i: &Inertia6, u: &Force, w: &Force) -> Result<Inertia6, NumFault>
     ensures exact { result ≡ less_outer_of intervals i.now u.now w.now }
-    ensures encloses { IfOk result (EnclosesLessOuter i.now u.now w.now) }
     ensures size { IfErr result (λ e. e ≡ NumFault.Size) }
 {
     let a = less_symmetric(&i.a, &u.lin, &w.lin)?;
     let b = less_table(&i.b, &u.lin, &w.ang)?;
     let c = less_symmetric(&i.c, &u.ang, &w.ang)?;
     Ok(Inertia6 { a, b, c })
+}
+
+/// The table less the outer product of `u` and `w`, of which the entries on and above the
+/// diagonal are taken. It is refused with `Size` exactly where one of these is.
+#[tactic(auto, using(crate::proofs::Enclosure::less_outer_encloses))]
+pub fn less_outer(i: &Inertia6, u: &Force, w: &Force) -> Result<Inertia6, NumFault>
+    ensures exact { result ≡ less_outer_of intervals i.now u.now w.now }
+    ensures encloses { IfOk result (EnclosesLessOuter i.now u.now w.now) }
+    ensures size { IfErr result (λ e. e ≡ NumFault.Size) }
+{
+    match near_less_outer(i, u, w) {
+        Some(rest) => Ok(rest),
+        None => far_less_outer(i, u, w),
+    }
 }

@@ -1,10 +1,12 @@
-ghost use Rattle.std.specs.Prelude.{◌≡◌, IfOk, IfErr};
+ghost use Rattle.std.specs.Prelude.{◌≡◌, Ok, IfOk, IfErr, IfSome};
 ghost use Rattle.rb_num.specs.Arith.{intervals};
+ghost use Rattle.rb_frac.specs.Tables.{transpose};
 ghost use Rattle.rb_spatial.specs.Motions.{EnclosesCross3, EnclosesCrossTwice, EnclosesPlusCross, EnclosesMultiple, EnclosesSumVector, EnclosesMul};
 ghost use Rattle.rb_spatial.specs.Motions.{EnclosesApply, EnclosesApplyDual, EnclosesCross, EnclosesCrossDual, EnclosesPower, EnclosesSumSpatial};
 ghost use Rattle.rb_spatial.specs.Motions.{cross3 as cross3_of, cross_twice as cross_twice_of, plus_cross as plus_cross_of, multiple as multiple_of, sum_vector as sum_vector_of, mul as mul_of};
 ghost use Rattle.rb_spatial.specs.Motions.{apply as apply_of, apply_dual as apply_dual_of, cross as cross_of, cross_dual as cross_dual_of, power as power_of, sum_spatial as sum_spatial_of};
 
+use crate::near::{near_dot, near_dots, near_four, near_one, near_three, near_two};
 use crate::vectors::{Mat3, Vec3};
 use rb_num::{Iv, NumFault, dot};
 use std::marker::Model;
@@ -84,10 +86,35 @@ impl Model for Place {
 
 /// The cross product `u x w`. It is refused with `Size` exactly where one of its sums of products
 /// is.
-#[tactic(auto, unfolding(crate::specs::Motions::cross3))]
+#[tactic(auto, using(crate::proofs::Enclosure::cross3_encloses))]
 pub fn cross3(u: &Vec3, w: &Vec3) -> Result<Vec3, NumFault>
     ensures exact { result ≡ cross3_of intervals u.now w.now }
     ensures encloses { IfOk result (EnclosesCross3 u.now w.now) }
+    ensures size { IfErr result (λ e. e ≡ NumFault.Size) }
+{
+    match near_cross3(u, w) {
+        Some(product) => Ok(product),
+        None => far_cross3(u, w),
+    }
+}
+
+#[inline(always)]
+#[tactic(auto, unfolding(crate::specs::Motions::cross3))]
+fn near_cross3(u: &Vec3, w: &Vec3) -> Option<Vec3>
+    ensures { IfSome result (λ v. cross3_of intervals u.now w.now ≡ Ok v) }
+{
+    let (u, w) = (u.lend(), w.lend());
+    let x = near_two(u.y, w.z, u.z, w.y)?;
+    let y = near_two(u.z, w.x, u.x, w.z)?;
+    let z = near_two(u.x, w.y, u.y, w.x)?;
+    Some(Vec3::new(x, y, z))
+}
+
+#[cold]
+#[inline(never)]
+#[tactic(auto, unfolding(crate::specs::Motions::cross3))]
+fn far_cross3(u: &Vec3, w: &Vec3) -> Result<Vec3, NumFault>
+    ensures exact { result ≡ cross3_of intervals u.now w.now }
     ensures size { IfErr result (λ e. e ≡ NumFault.Size) }
 {
     let x = dot(&[(u.y(), w.z()), (u.z().neg(), w.y())])?;
@@ -98,10 +125,36 @@ pub fn cross3(u: &Vec3, w: &Vec3) -> Result<Vec3, NumFault>
 
 /// `u x w + s x t`, one sum of four products for each part. It is refused with `Size` exactly where
 /// one of these is.
-#[tactic(auto, unfolding(crate::specs::Motions::cross_twice))]
+#[tactic(auto, using(crate::proofs::Enclosure::cross_twice_encloses))]
 pub fn cross_twice(u: &Vec3, w: &Vec3, s: &Vec3, t: &Vec3) -> Result<Vec3, NumFault>
     ensures exact { result ≡ cross_twice_of intervals u.now w.now s.now t.now }
     ensures encloses { IfOk result (EnclosesCrossTwice u.now w.now s.now t.now) }
+    ensures size { IfErr result (λ e. e ≡ NumFault.Size) }
+{
+    match near_cross_twice(u, w, s, t) {
+        Some(sum) => Ok(sum),
+        None => far_cross_twice(u, w, s, t),
+    }
+}
+
+#[inline(always)]
+#[tactic(auto, unfolding(crate::specs::Motions::cross_twice))]
+fn near_cross_twice(u: &Vec3, w: &Vec3, s: &Vec3, t: &Vec3) -> Option<Vec3>
+    ensures { IfSome result (λ v. cross_twice_of intervals u.now w.now s.now t.now ≡ Ok v) }
+{
+    let (u, w) = (u.lend(), w.lend());
+    let (s, t) = (s.lend(), t.lend());
+    let x = near_four(u.y, w.z, u.z, w.y, s.y, t.z, s.z, t.y)?;
+    let y = near_four(u.z, w.x, u.x, w.z, s.z, t.x, s.x, t.z)?;
+    let z = near_four(u.x, w.y, u.y, w.x, s.x, t.y, s.y, t.x)?;
+    Some(Vec3::new(x, y, z))
+}
+
+#[cold]
+#[inline(never)]
+#[tactic(auto, unfolding(crate::specs::Motions::cross_twice))]
+fn far_cross_twice(u: &Vec3, w: &Vec3, s: &Vec3, t: &Vec3) -> Result<Vec3, NumFault>
+    ensures exact { result ≡ cross_twice_of intervals u.now w.now s.now t.now }
     ensures size { IfErr result (λ e. e ≡ NumFault.Size) }
 {
     let x = dot(&[
@@ -127,10 +180,35 @@ pub fn cross_twice(u: &Vec3, w: &Vec3, s: &Vec3, t: &Vec3) -> Result<Vec3, NumFa
 
 /// `n + u x w`, one sum of three products for each part. It is refused with `Size` exactly where one
 /// of these is.
-#[tactic(auto, unfolding(crate::specs::Motions::plus_cross))]
+#[tactic(auto, using(crate::proofs::Enclosure::plus_cross_encloses))]
 pub fn plus_cross(n: &Vec3, u: &Vec3, w: &Vec3) -> Result<Vec3, NumFault>
     ensures exact { result ≡ plus_cross_of intervals n.now u.now w.now }
     ensures encloses { IfOk result (EnclosesPlusCross n.now u.now w.now) }
+    ensures size { IfErr result (λ e. e ≡ NumFault.Size) }
+{
+    match near_plus_cross(n, u, w) {
+        Some(sum) => Ok(sum),
+        None => far_plus_cross(n, u, w),
+    }
+}
+
+#[inline(always)]
+#[tactic(auto, unfolding(crate::specs::Motions::plus_cross))]
+fn near_plus_cross(n: &Vec3, u: &Vec3, w: &Vec3) -> Option<Vec3>
+    ensures { IfSome result (λ v. plus_cross_of intervals n.now u.now w.now ≡ Ok v) }
+{
+    let (n, u, w) = (n.lend(), u.lend(), w.lend());
+    let x = near_three(n.x, &Iv::ONE, u.y, w.z, u.z, w.y)?;
+    let y = near_three(n.y, &Iv::ONE, u.z, w.x, u.x, w.z)?;
+    let z = near_three(n.z, &Iv::ONE, u.x, w.y, u.y, w.x)?;
+    Some(Vec3::new(x, y, z))
+}
+
+#[cold]
+#[inline(never)]
+#[tactic(auto, unfolding(crate::specs::Motions::plus_cross))]
+fn far_plus_cross(n: &Vec3, u: &Vec3, w: &Vec3) -> Result<Vec3, NumFault>
+    ensures exact { result ≡ plus_cross_of intervals n.now u.now w.now }
     ensures size { IfErr result (λ e. e ≡ NumFault.Size) }
 {
     let x = dot(&[(n.x(), Iv::ONE), (u.y(), w.z()), (u.z().neg(), w.y())])?;
@@ -141,10 +219,35 @@ pub fn plus_cross(n: &Vec3, u: &Vec3, w: &Vec3) -> Result<Vec3, NumFault>
 
 /// The multiple `k v`, a product for each part. It is refused with `Size` exactly where one of these
 /// is.
-#[tactic(auto, unfolding(crate::specs::Motions::multiple))]
+#[tactic(auto, using(crate::proofs::Enclosure::multiple_encloses))]
 pub fn multiple(k: Iv, v: &Vec3) -> Result<Vec3, NumFault>
     ensures exact { result ≡ multiple_of intervals k v.now }
     ensures encloses { IfOk result (EnclosesMultiple k v.now) }
+    ensures size { IfErr result (λ e. e ≡ NumFault.Size) }
+{
+    match near_multiple(&k, v) {
+        Some(product) => Ok(product),
+        None => far_multiple(k, v),
+    }
+}
+
+#[inline(always)]
+#[tactic(auto, unfolding(crate::specs::Motions::multiple))]
+fn near_multiple(k: &Iv, v: &Vec3) -> Option<Vec3>
+    ensures { IfSome result (λ w. multiple_of intervals k.now v.now ≡ Ok w) }
+{
+    let v = v.lend();
+    let x = near_one(k, v.x)?;
+    let y = near_one(k, v.y)?;
+    let z = near_one(k, v.z)?;
+    Some(Vec3::new(x, y, z))
+}
+
+#[cold]
+#[inline(never)]
+#[tactic(auto, unfolding(crate::specs::Motions::multiple))]
+fn far_multiple(k: Iv, v: &Vec3) -> Result<Vec3, NumFault>
+    ensures exact { result ≡ multiple_of intervals k v.now }
     ensures size { IfErr result (λ e. e ≡ NumFault.Size) }
 {
     let x = dot(&[(k, v.x())])?;
@@ -168,10 +271,35 @@ pub fn sum_vector(u: &Vec3, w: &Vec3) -> Result<Vec3, NumFault>
 
 /// The table times the vector, a sum of three products for each part. It is refused with `Size`
 /// exactly where one of these is.
-#[tactic(auto, unfolding(crate::specs::Motions::mul))]
+#[tactic(auto, using(crate::proofs::Enclosure::mul_encloses))]
 pub fn mul(t: &Mat3, v: &Vec3) -> Result<Vec3, NumFault>
     ensures exact { result ≡ mul_of intervals t.now v.now }
     ensures encloses { IfOk result (EnclosesMul t.now v.now) }
+    ensures size { IfErr result (λ e. e ≡ NumFault.Size) }
+{
+    match near_mul(t, v) {
+        Some(product) => Ok(product),
+        None => far_mul(t, v),
+    }
+}
+
+#[inline(always)]
+#[tactic(auto, unfolding(crate::specs::Motions::mul))]
+fn near_mul(t: &Mat3, v: &Vec3) -> Option<Vec3>
+    ensures { IfSome result (λ w. mul_of intervals t.now v.now ≡ Ok w) }
+{
+    let v = v.lend();
+    let x = near_dot(&t.row_x(), &v)?;
+    let y = near_dot(&t.row_y(), &v)?;
+    let z = near_dot(&t.row_z(), &v)?;
+    Some(Vec3::new(x, y, z))
+}
+
+#[cold]
+#[inline(never)]
+#[tactic(auto, unfolding(crate::specs::Motions::mul))]
+fn far_mul(t: &Mat3, v: &Vec3) -> Result<Vec3, NumFault>
+    ensures exact { result ≡ mul_of intervals t.now v.now }
     ensures size { IfErr result (λ e. e ≡ NumFault.Size) }
 {
     let (r, s, t) = (t.x(), t.y(), t.z());
@@ -181,12 +309,48 @@ pub fn mul(t: &Mat3, v: &Vec3) -> Result<Vec3, NumFault>
     Ok(Vec3::new(x, y, z))
 }
 
+#[inline(always)]
+#[tactic(auto, unfolding(crate::specs::Motions::mul))]
+fn near_mul_turned(t: &Mat3, v: &Vec3) -> Option<Vec3>
+    ensures { IfSome result (λ w. mul_of intervals (transpose t.now) v.now ≡ Ok w) }
+{
+    let v = v.lend();
+    let x = near_dot(&t.column_x(), &v)?;
+    let y = near_dot(&t.column_y(), &v)?;
+    let z = near_dot(&t.column_z(), &v)?;
+    Some(Vec3::new(x, y, z))
+}
+
 /// The parent's motion as the body's: `(e (lin + ang x r), e ang)`. It is refused with `Size`
 /// exactly where one of its sums of products is.
-#[tactic(auto, unfolding(crate::specs::Motions::apply))]
+#[tactic(auto, using(crate::proofs::Enclosure::apply_encloses))]
 pub fn apply(x: &Place, m: &Motion) -> Result<Motion, NumFault>
     ensures exact { result ≡ apply_of intervals x.now m.now }
     ensures encloses { IfOk result (EnclosesApply x.now m.now) }
+    ensures size { IfErr result (λ e. e ≡ NumFault.Size) }
+{
+    match near_apply(x, m) {
+        Some(moved) => Ok(moved),
+        None => far_apply(x, m),
+    }
+}
+
+#[inline(always)]
+#[tactic(auto, unfolding(crate::specs::Motions::apply))]
+fn near_apply(x: &Place, m: &Motion) -> Option<Motion>
+    ensures { IfSome result (λ v. apply_of intervals x.now m.now ≡ Ok v) }
+{
+    let t = near_plus_cross(&m.lin, &m.ang, &x.r)?;
+    let lin = near_mul(&x.e, &t)?;
+    let ang = near_mul(&x.e, &m.ang)?;
+    Some(Motion { lin, ang })
+}
+
+#[cold]
+#[inline(never)]
+#[tactic(auto, unfolding(crate::specs::Motions::apply))]
+fn far_apply(x: &Place, m: &Motion) -> Result<Motion, NumFault>
+    ensures exact { result ≡ apply_of intervals x.now m.now }
     ensures size { IfErr result (λ e. e ≡ NumFault.Size) }
 {
     let t = plus_cross(&m.lin, &m.ang, &x.r)?;
@@ -197,10 +361,34 @@ pub fn apply(x: &Place, m: &Motion) -> Result<Motion, NumFault>
 
 /// The body's force as the parent's: `(e^T lin, e^T ang + r x e^T lin)`. It is refused with `Size`
 /// exactly where one of its sums of products is.
-#[tactic(auto, unfolding(crate::specs::Motions::apply_dual))]
+#[tactic(auto, using(crate::proofs::Enclosure::apply_dual_encloses))]
 pub fn apply_dual(x: &Place, f: &Force) -> Result<Force, NumFault>
     ensures exact { result ≡ apply_dual_of intervals x.now f.now }
     ensures encloses { IfOk result (EnclosesApplyDual x.now f.now) }
+    ensures size { IfErr result (λ e. e ≡ NumFault.Size) }
+{
+    match near_apply_dual(x, f) {
+        Some(moved) => Ok(moved),
+        None => far_apply_dual(x, f),
+    }
+}
+
+#[inline(always)]
+#[tactic(auto, unfolding(crate::specs::Motions::apply_dual))]
+fn near_apply_dual(x: &Place, f: &Force) -> Option<Force>
+    ensures { IfSome result (λ v. apply_dual_of intervals x.now f.now ≡ Ok v) }
+{
+    let lin = near_mul_turned(&x.e, &f.lin)?;
+    let n = near_mul_turned(&x.e, &f.ang)?;
+    let ang = near_plus_cross(&n, &x.r, &lin)?;
+    Some(Force { lin, ang })
+}
+
+#[cold]
+#[inline(never)]
+#[tactic(auto, unfolding(crate::specs::Motions::apply_dual))]
+fn far_apply_dual(x: &Place, f: &Force) -> Result<Force, NumFault>
+    ensures exact { result ≡ apply_dual_of intervals x.now f.now }
     ensures size { IfErr result (λ e. e ≡ NumFault.Size) }
 {
     let turn = x.e.transpose();
@@ -213,10 +401,33 @@ pub fn apply_dual(x: &Place, f: &Force) -> Result<Force, NumFault>
 /// The product of two motions, which is how `b` changes as it moves along with `a`:
 /// `(a.ang x b.lin + a.lin x b.ang, a.ang x b.ang)`. It is refused with `Size` exactly where one of
 /// its sums of products is.
-#[tactic(auto, unfolding(crate::specs::Motions::cross))]
+#[tactic(auto, using(crate::proofs::Enclosure::cross_encloses))]
 pub fn cross(a: &Motion, b: &Motion) -> Result<Motion, NumFault>
     ensures exact { result ≡ cross_of intervals a.now b.now }
     ensures encloses { IfOk result (EnclosesCross a.now b.now) }
+    ensures size { IfErr result (λ e. e ≡ NumFault.Size) }
+{
+    match near_cross(a, b) {
+        Some(product) => Ok(product),
+        None => far_cross(a, b),
+    }
+}
+
+#[inline(always)]
+#[tactic(auto, unfolding(crate::specs::Motions::cross))]
+fn near_cross(a: &Motion, b: &Motion) -> Option<Motion>
+    ensures { IfSome result (λ v. cross_of intervals a.now b.now ≡ Ok v) }
+{
+    let lin = near_cross_twice(&a.ang, &b.lin, &a.lin, &b.ang)?;
+    let ang = near_cross3(&a.ang, &b.ang)?;
+    Some(Motion { lin, ang })
+}
+
+#[cold]
+#[inline(never)]
+#[tactic(auto, unfolding(crate::specs::Motions::cross))]
+fn far_cross(a: &Motion, b: &Motion) -> Result<Motion, NumFault>
+    ensures exact { result ≡ cross_of intervals a.now b.now }
     ensures size { IfErr result (λ e. e ≡ NumFault.Size) }
 {
     let lin = cross_twice(&a.ang, &b.lin, &a.lin, &b.ang)?;
@@ -227,10 +438,33 @@ pub fn cross(a: &Motion, b: &Motion) -> Result<Motion, NumFault>
 /// The product of a motion and a force, which is how `f` changes as it moves along with `a`:
 /// `(a.ang x f.lin, a.ang x f.ang + a.lin x f.lin)`. It is refused with `Size` exactly where one of
 /// its sums of products is.
-#[tactic(auto, unfolding(crate::specs::Motions::cross_dual))]
+#[tactic(auto, using(crate::proofs::Enclosure::cross_dual_encloses))]
 pub fn cross_dual(a: &Motion, f: &Force) -> Result<Force, NumFault>
     ensures exact { result ≡ cross_dual_of intervals a.now f.now }
     ensures encloses { IfOk result (EnclosesCrossDual a.now f.now) }
+    ensures size { IfErr result (λ e. e ≡ NumFault.Size) }
+{
+    match near_cross_dual(a, f) {
+        Some(product) => Ok(product),
+        None => far_cross_dual(a, f),
+    }
+}
+
+#[inline(always)]
+#[tactic(auto, unfolding(crate::specs::Motions::cross_dual))]
+fn near_cross_dual(a: &Motion, f: &Force) -> Option<Force>
+    ensures { IfSome result (λ v. cross_dual_of intervals a.now f.now ≡ Ok v) }
+{
+    let lin = near_cross3(&a.ang, &f.lin)?;
+    let ang = near_cross_twice(&a.ang, &f.ang, &a.lin, &f.lin)?;
+    Some(Force { lin, ang })
+}
+
+#[cold]
+#[inline(never)]
+#[tactic(auto, unfolding(crate::specs::Motions::cross_dual))]
+fn far_cross_dual(a: &Motion, f: &Force) -> Result<Force, NumFault>
+    ensures exact { result ≡ cross_dual_of intervals a.now f.now }
     ensures size { IfErr result (λ e. e ≡ NumFault.Size) }
 {
     let lin = cross3(&a.ang, &f.lin)?;
@@ -240,10 +474,31 @@ pub fn cross_dual(a: &Motion, f: &Force) -> Result<Force, NumFault>
 
 /// The power of the force at the motion, one sum of six products. It is refused with `Size` exactly
 /// where that is.
-#[tactic(auto, unfolding(crate::specs::Motions::power))]
+#[tactic(auto, using(crate::proofs::Enclosure::power_encloses))]
 pub fn power(m: &Motion, f: &Force) -> Result<Iv, NumFault>
     ensures exact { result ≡ power_of intervals m.now f.now }
     ensures encloses { IfOk result (EnclosesPower m.now f.now) }
+    ensures size { IfErr result (λ e. e ≡ NumFault.Size) }
+{
+    match near_power(m, f) {
+        Some(power) => Ok(power),
+        None => far_power(m, f),
+    }
+}
+
+#[inline(always)]
+#[tactic(auto, unfolding(crate::specs::Motions::power))]
+fn near_power(m: &Motion, f: &Force) -> Option<Iv>
+    ensures { IfSome result (λ v. power_of intervals m.now f.now ≡ Ok v) }
+{
+    near_dots(&m.lin.lend(), &f.lin.lend(), &m.ang.lend(), &f.ang.lend())
+}
+
+#[cold]
+#[inline(never)]
+#[tactic(auto, unfolding(crate::specs::Motions::power))]
+fn far_power(m: &Motion, f: &Force) -> Result<Iv, NumFault>
+    ensures exact { result ≡ power_of intervals m.now f.now }
     ensures size { IfErr result (λ e. e ≡ NumFault.Size) }
 {
     dot(&[

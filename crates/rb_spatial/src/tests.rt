@@ -1,6 +1,6 @@
 use crate::{
     BodyInertia, Force, Frame, Inertia6, Mat3, Motion, Place, Sym3, Vec3, apply, apply_dual, carry,
-    cross, cross_dual, less_outer, power, sum, table, times,
+    cross, cross_dual, less_outer, power, sum, table, times, times_body,
 };
 use rb_num::{Iv, NumFault};
 use std::test::Fail;
@@ -131,6 +131,10 @@ fn inertias(rt: HostRuntime) -> Result<(), Fail> {
     // 2 u + w x h, and the six numbers times w, and h x u.
     let m = motion((3, 2, 1), (4, 5, 6));
     assert_eq!(rt; times(&i, &m)?, force((9, -2, 5), (53, 130, 199)));
+    assert_eq!(rt;
+        times_body(&some_body(), &m)?,
+        force((9, -2, 5), (53, 130, 199))
+    );
 
     let twice = body(4, (2, 4, 6), [20, 2, 4, 40, 6, 60]);
     assert_eq!(rt; sum(&i, &i)?, table(&twice));
@@ -195,6 +199,43 @@ fn brackets(rt: HostRuntime) -> Result<(), Fail> {
     Ok(())
 }
 
+// Numbers of more than 2^60 units, of which no product passes the limit.
+#[test]
+fn large_numbers(rt: HostRuntime) -> Result<(), Fail> {
+    let [_, _, place] = quarter_turns();
+    let m = motion((4_000_000, 5_000_000, 6_000_000), (7, 8, 9));
+    assert_eq!(rt;
+        apply(&place, &m)?,
+        motion((4_999_988, -4_000_006, 6_000_006), (8, -7, 9))
+    );
+
+    let f = force((2_000_000, 0, 0), (4, 5, 6));
+    assert_eq!(rt;
+        apply_dual(&place, &f)?,
+        force((0, 2_000_000, 0), (-6_000_005, 4, 2_000_006))
+    );
+
+    let a = motion((1, 2, 3), (2_000_000, 0, 0));
+    let b = motion((7, 8, 9), (-1, 0, 2));
+    assert_eq!(rt;
+        cross(&a, &b)?,
+        motion((4, -18_000_005, 16_000_002), (0, -4_000_000, 0))
+    );
+    assert_eq!(rt;
+        cross_dual(&a, &force((7, 8, 9), (-1, 0, 2)))?,
+        force((0, -18_000_000, 16_000_000), (-6, -3_999_988, -6))
+    );
+    assert_eq!(rt; power(&a, &force((2, 0, 0), (5, 6, 7)))?, whole(10_000_002));
+
+    // 2 u and w x h, and h x u.
+    let body = body(2, (1, 0, 0), [0, 0, 0, 0, 0, 0]);
+    let m = motion((3_000_000, 2, 1), (0, 0, 5));
+    let want = force((6_000_000, 9, 2), (0, -1, 2));
+    assert_eq!(rt; times(&table(&body), &m)?, want);
+    assert_eq!(rt; times_body(&body, &m)?, want);
+    Ok(())
+}
+
 // The first step of each call has a product, or a sum, above the limit.
 #[test]
 fn refusals(rt: HostRuntime) -> Result<(), Fail> {
@@ -207,10 +248,11 @@ fn refusals(rt: HostRuntime) -> Result<(), Fail> {
     let m = Motion { lin: far, ang: far };
     let f = Force { lin: far, ang: far };
     let i = table(&some_body());
-    let heavy = table(&BodyInertia {
+    let heavy_body = BodyInertia {
         mass: limit,
         ..some_body()
-    });
+    };
+    let heavy = table(&heavy_body);
     let size = Some(NumFault::Size);
     assert_eq!(rt; apply(&place, &m).err(), size);
     assert_eq!(rt; apply_dual(&place, &f).err(), size);
@@ -218,6 +260,7 @@ fn refusals(rt: HostRuntime) -> Result<(), Fail> {
     assert_eq!(rt; cross_dual(&m, &f).err(), size);
     assert_eq!(rt; power(&m, &f).err(), size);
     assert_eq!(rt; times(&heavy, &m).err(), size);
+    assert_eq!(rt; times_body(&heavy_body, &m).err(), size);
     assert_eq!(rt; carry(&place, &heavy).err(), size);
     assert_eq!(rt; sum(&heavy, &i).err(), size);
     assert_eq!(rt; less_outer(&heavy, &f, &f).err(), size);

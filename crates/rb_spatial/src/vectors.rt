@@ -5,6 +5,23 @@ ghost use Rattle.rb_frac.specs.Tables.{transpose as transpose_of, full as full_o
 use rb_num::Iv;
 use std::marker::Model;
 
+/// Three intervals where they stand: the parts of a vector, or a row or a column of a table.
+#[derive(Drop)]
+pub(crate) struct Lent<'a> {
+    pub(crate) x: &'a Iv,
+    pub(crate) y: &'a Iv,
+    pub(crate) z: &'a Iv,
+}
+
+impl<'a> Model for Lent<'a> {
+    ghost use Rattle.rb_frac.specs.Ops.{V3};
+    ghost use Rattle.rb_num.specs.Interval.{Interval};
+
+    ghost Value = { V3 Interval };
+
+    ghost view = { λ a. record { x = a.x.now; y = a.y.now; z = a.z.now } };
+}
+
 /// A vector of three intervals.
 #[derive(Clone, Copy, Debug, PartialEq, Eq)]
 pub struct Vec3([Iv; 3]);
@@ -58,6 +75,15 @@ impl Vec3 {
         ensures { result ≡ self.now.z }
     {
         self.0[2]
+    }
+
+    /// The parts where they stand.
+    #[inline(always)]
+    pub(crate) fn lend(&self) -> Lent<'_>
+        ensures { result ≡ self.now }
+    {
+        let [x, y, z] = &self.0;
+        Lent { x, y, z }
     }
 
     /// Component `k`, from 0.
@@ -166,6 +192,78 @@ impl Mat3 {
         Vec3(self.0[2])
     }
 
+    /// The first row where it stands.
+    #[inline(always)]
+    pub(crate) fn row_x(&self) -> Lent<'_>
+        ensures { result ≡ self.now.x }
+    {
+        Lent {
+            x: &self.0[0][0],
+            y: &self.0[0][1],
+            z: &self.0[0][2],
+        }
+    }
+
+    /// The second row where it stands.
+    #[inline(always)]
+    pub(crate) fn row_y(&self) -> Lent<'_>
+        ensures { result ≡ self.now.y }
+    {
+        Lent {
+            x: &self.0[1][0],
+            y: &self.0[1][1],
+            z: &self.0[1][2],
+        }
+    }
+
+    /// The third row where it stands.
+    #[inline(always)]
+    pub(crate) fn row_z(&self) -> Lent<'_>
+        ensures { result ≡ self.now.z }
+    {
+        Lent {
+            x: &self.0[2][0],
+            y: &self.0[2][1],
+            z: &self.0[2][2],
+        }
+    }
+
+    /// The first column where it stands.
+    #[inline(always)]
+    pub(crate) fn column_x(&self) -> Lent<'_>
+        ensures { result ≡ (transpose_of self.now).x }
+    {
+        Lent {
+            x: &self.0[0][0],
+            y: &self.0[1][0],
+            z: &self.0[2][0],
+        }
+    }
+
+    /// The second column where it stands.
+    #[inline(always)]
+    pub(crate) fn column_y(&self) -> Lent<'_>
+        ensures { result ≡ (transpose_of self.now).y }
+    {
+        Lent {
+            x: &self.0[0][1],
+            y: &self.0[1][1],
+            z: &self.0[2][1],
+        }
+    }
+
+    /// The third column where it stands.
+    #[inline(always)]
+    pub(crate) fn column_z(&self) -> Lent<'_>
+        ensures { result ≡ (transpose_of self.now).z }
+    {
+        Lent {
+            x: &self.0[0][2],
+            y: &self.0[1][2],
+            z: &self.0[2][2],
+        }
+    }
+
     /// Row `k`, from 0.
     #[inline]
     pub fn row(&self, k: usize) -> Vec3
@@ -226,5 +324,41 @@ impl Sym3 {
             Vec3::new(self.xy, self.yy, self.yz),
             Vec3::new(self.xz, self.yz, self.zz),
         )
+    }
+
+    /// The first row of the nine entries where it stands.
+    #[inline(always)]
+    pub(crate) fn row_x(&self) -> Lent<'_>
+        ensures { result ≡ (full_of self.now).x }
+    {
+        Lent {
+            x: &self.xx,
+            y: &self.xy,
+            z: &self.xz,
+        }
+    }
+
+    /// The second row where it stands.
+    #[inline(always)]
+    pub(crate) fn row_y(&self) -> Lent<'_>
+        ensures { result ≡ (full_of self.now).y }
+    {
+        Lent {
+            x: &self.xy,
+            y: &self.yy,
+            z: &self.yz,
+        }
+    }
+
+    /// The third row where it stands.
+    #[inline(always)]
+    pub(crate) fn row_z(&self) -> Lent<'_>
+        ensures { result ≡ (full_of self.now).z }
+    {
+        Lent {
+            x: &self.xz,
+            y: &self.yz,
+            z: &self.zz,
+        }
     }
 }

@@ -1,9 +1,6 @@
-use Rattle.std.proofs.Common.{rules}
-use Rattle.rb_spatial.specs.Carrying.{product}
-use Rattle.rb_num.proofs.Bridges.{to_intervals, ok_met}
-use Rattle.rb_spatial.proofs.Keep.{product_met}
+use Rattle.std.proofs.Common.{rules, Ok}
+use Rattle.rb_spatial.proofs.Enclosure.{product_encloses}
 use Rattle.rb_spatial.proofs.carrying.product.Goals as goal
 
-pub returns-clause-encloses : goal.returns-clause-encloses
-unfolding product
-returns-clause-encloses c = record { at = λ p q hp hq. ok_met (search rules) (product_met to_intervals hp hq) }
+pub returns-in-Some-clause-encloses : goal.returns-in-Some-clause-encloses
+returns-in-Some-clause-encloses c = product_encloses c.args.s.now c.args.t.now (Ok _) (search rules)

@@ -1,9 +1,6 @@
-use Rattle.std.proofs.Common.{rules}
-use Rattle.rb_spatial.specs.Motions.{cross3}
-use Rattle.rb_num.proofs.Bridges.{to_intervals, ok_met}
-use Rattle.rb_spatial.proofs.Keep.{cross3_met}
+use Rattle.std.proofs.Common.{rules, Ok}
+use Rattle.rb_spatial.proofs.Enclosure.{cross3_encloses}
 use Rattle.rb_spatial.proofs.motions.cross3.Goals as goal
 
-pub returns-clause-encloses : goal.returns-clause-encloses
-unfolding cross3
-returns-clause-encloses c = record { at = λ p q hp hq. ok_met (search rules) (cross3_met to_intervals hp hq) }
+pub returns-in-Some-clause-encloses : goal.returns-in-Some-clause-encloses
+returns-in-Some-clause-encloses c = cross3_encloses c.args.u.now c.args.w.now (Ok _) (search rules)

@@ -1,9 +1,6 @@
-use Rattle.std.proofs.Common.{rules}
-use Rattle.rb_spatial.specs.Motions.{cross_dual}
-use Rattle.rb_num.proofs.Bridges.{to_intervals, ok_met}
-use Rattle.rb_spatial.proofs.Keep.{cross_dual_met}
+use Rattle.std.proofs.Common.{rules, Ok}
+use Rattle.rb_spatial.proofs.Enclosure.{cross_dual_encloses}
 use Rattle.rb_spatial.proofs.motions.cross_dual.Goals as goal
 
-pub returns-clause-encloses : goal.returns-clause-encloses
-unfolding cross_dual
-returns-clause-encloses c = record { at = λ p q hp hq. ok_met (search rules) (cross_dual_met to_intervals hp hq) }
+pub returns-in-Some-clause-encloses : goal.returns-in-Some-clause-encloses
+returns-in-Some-clause-encloses c = cross_dual_encloses c.args.a.now c.args.f.now (Ok _) (search rules)

@@ -1,9 +1,6 @@
-use Rattle.std.proofs.Common.{rules}
-use Rattle.rb_spatial.specs.Motions.{plus_cross}
-use Rattle.rb_num.proofs.Bridges.{to_intervals, ok_met}
-use Rattle.rb_spatial.proofs.Keep.{plus_cross_met}
+use Rattle.std.proofs.Common.{rules, Ok}
+use Rattle.rb_spatial.proofs.Enclosure.{plus_cross_encloses}
 use Rattle.rb_spatial.proofs.motions.plus_cross.Goals as goal
 
-pub returns-clause-encloses : goal.returns-clause-encloses
-unfolding plus_cross
-returns-clause-encloses c = record { at = λ p q r hp hq hr. ok_met (search rules) (plus_cross_met to_intervals hp hq hr) }
+pub returns-in-Some-clause-encloses : goal.returns-in-Some-clause-encloses
+returns-in-Some-clause-encloses c = plus_cross_encloses c.args.n.now c.args.u.now c.args.w.now (Ok _) (search rules)

@@ -1,8 +1,6 @@
-use Rattle.std.proofs.Common.{rules}
-use Rattle.rb_spatial.specs.Motions.{power}
+use Rattle.std.proofs.Common.{rules, Ok}
 use Rattle.rb_spatial.proofs.Enclosure.{power_encloses}
 use Rattle.rb_spatial.proofs.motions.power.Goals as goal
 
-pub returns-clause-encloses : goal.returns-clause-encloses
-unfolding power
-returns-clause-encloses c = power_encloses c.args.m.now c.args.f.now c.dot.result (search rules)
+pub returns-in-Some-clause-encloses : goal.returns-in-Some-clause-encloses
+returns-in-Some-clause-encloses c = power_encloses c.args.m.now c.args.f.now (Ok _) (search rules)
