@@ -1,18 +1,14 @@
 -- The motion over a joint without the products of zeros, and what it encloses.
-use Rattle.std.proofs.Common.{◌≡◌, ℕ, zero, suc, ◌+◌, ◌-◌, ◌<◌, ◌≤◌, List, [], ◌∷◌, ◌++◌, length, Result, Ok, Err, refl, sym, ap, ◌∙◌, arith}
-use mathlib.Core.Path.{ap₂}
+use Rattle.std.proofs.Common.{◌≡◌, ℕ, zero, suc, ◌-◌, ◌<◌, ◌≤◌, List, [], ◌∷◌, ◌++◌, length, Result, Ok, Err, refl, sym, ap, ◌∙◌, arith}
 use Rattle.rb_result.specs.Steps.{◌>>=◌}
-use Rattle.rb_frac.specs.Ops.{V3, vadd, vscale, sum}
-use Rattle.rb_frac.specs.Frac.{Frac, Same, fracs, mul}
-use Rattle.rb_frac.specs.Pairs.{dot, PairsRelate}
-use Rattle.rb_frac.specs.Tables.{component, unit, nothing, vector}
-use Rattle.rb_frac.specs.Spatial.{Motion, Force, Spatials, Motions, Forces}
-use Rattle.rb_frac.specs.Mechanics.{plus, scaled}
+use Rattle.rb_frac.specs.Ops.{V3}
+use Rattle.rb_frac.specs.Tables.{component, unit, nothing}
+use Rattle.rb_frac.specs.Spatial.{Motion, Force}
 use Rattle.rb_num.specs.declared.interval.NumFault.{NumFault}
 use Rattle.rb_num.specs.Interval.{Interval, zero_interval, one_interval}
-use Rattle.rb_num.specs.Arith.{Arith, intervals, fractions, signs_of}
+use Rattle.rb_num.specs.Arith.{intervals, signs_of}
 use Rattle.rb_num.specs.Dot.{iv_dot}
-use Rattle.rb_num.proofs.Zeros.{dot-none, dot-zero_first, dot-zero_second, dot-head_zero_first, dot-head_zero_second}
+use Rattle.rb_num.proofs.Zeros.{dot-none, dot-zero_first, dot-zero_second, dot-head_zero_second}
 use Rattle.rb_spatial.specs.Motions.{pairs, three, two, multiple, power}
 use Rattle.rb_flat.specs.Joint.{along, around, joint_column}
 use Rattle.rb_joint.specs.Models.{entry_at, planar_column, free_column}
@@ -46,13 +42,13 @@ along_one a [] h = absurd (omega arith)
 along_one a (x ∷ (y ∷ ys)) h = absurd (omega arith)
 
 -- a product with one between those with zero
-first_alone : (x y z : Interval) → iv_dot ((x, one_interval) ∷ (y, zero_interval) ∷ (z, zero_interval) ∷ []) ≡ iv_dot ((x, one_interval) ∷ [])
+pub first_alone : (x y z : Interval) → iv_dot ((x, one_interval) ∷ (y, zero_interval) ∷ (z, zero_interval) ∷ []) ≡ iv_dot ((x, one_interval) ∷ [])
 first_alone x y z = dot-zero_second y ((x, one_interval) ∷ []) ((z, zero_interval) ∷ []) ∙ dot-zero_second z ((x, one_interval) ∷ []) []
 
-second_alone : (x y z : Interval) → iv_dot ((x, zero_interval) ∷ (y, one_interval) ∷ (z, zero_interval) ∷ []) ≡ iv_dot ((y, one_interval) ∷ [])
+pub second_alone : (x y z : Interval) → iv_dot ((x, zero_interval) ∷ (y, one_interval) ∷ (z, zero_interval) ∷ []) ≡ iv_dot ((y, one_interval) ∷ [])
 second_alone x y z = dot-head_zero_second x ((y, one_interval) ∷ (z, zero_interval) ∷ []) ∙ dot-zero_second z ((y, one_interval) ∷ []) []
 
-third_alone : (x y z : Interval) → iv_dot ((x, zero_interval) ∷ (y, zero_interval) ∷ (z, one_interval) ∷ []) ≡ iv_dot ((z, one_interval) ∷ [])
+pub third_alone : (x y z : Interval) → iv_dot ((x, zero_interval) ∷ (y, zero_interval) ∷ (z, one_interval) ∷ []) ≡ iv_dot ((z, one_interval) ∷ [])
 third_alone x y z = dot-head_zero_second x ((y, zero_interval) ∷ (z, one_interval) ∷ []) ∙ dot-head_zero_second y ((z, one_interval) ∷ [])
 
 none_alone : (x y z : Interval) → iv_dot ((x, zero_interval) ∷ (y, zero_interval) ∷ (z, zero_interval) ∷ []) ≡ Ok zero_interval
@@ -80,7 +76,7 @@ level_motion x y z (Err e) dy dz a b ex ey ez ea eb = rw (ea, ← ex) refl
 level_motion x y z (Ok u) (Err e) dz a b ex ey ez ea eb = rw (ea, ← ex, ← ey) refl
 level_motion x y z (Ok u) (Ok v) (Err e) a b ex ey ez ea eb = rw (ea, eb, ← ex, ← ey, ← ez) refl
 
-three_same : {a a' b b' c c' : Result Interval NumFault} → a ≡ a' → b ≡ b' → c ≡ c' → three intervals a b c ≡ three intervals a' b' c'
+pub three_same : {a a' b b' c c' : Result Interval NumFault} → a ≡ a' → b ≡ b' → c ≡ c' → three intervals a b c ≡ three intervals a' b' c'
 three_same ea eb ec = cc
 
 pub level_three : (rates : List Interval) → length rates ≡ 3 → motion_level (entry_at rates 0) (entry_at rates 1) (entry_at rates 2) ≡ columns_motion intervals planar_column rates
@@ -94,7 +90,7 @@ level_three (x ∷ []) h = absurd (omega arith)
 level_three (x ∷ (y ∷ [])) h = absurd (omega arith)
 level_three (x ∷ (y ∷ (z ∷ (w ∷ ws)))) h = absurd (omega arith)
 
-two_same : {a a' b b' : Result (V3 Interval) NumFault} → a ≡ a' → b ≡ b' → two intervals a b ≡ two intervals a' b'
+pub two_same : {a a' b b' : Result (V3 Interval) NumFault} → a ≡ a' → b ≡ b' → two intervals a b ≡ two intervals a' b'
 two_same ea eb = cc
 
 pub free_six : (rates : List Interval) → length rates ≡ 6

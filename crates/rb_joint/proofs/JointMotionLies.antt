@@ -1,26 +1,25 @@
--- What the motion over a joint and the power at a column enclose.
-use Rattle.std.proofs.Common.{◌≡◌, ℕ, zero, suc, ◌+◌, ◌<◌, List, [], ◌∷◌, length, Result, Ok, Err, IfOk, refl, sym, ap, ◌∙◌, subst, arith}
-use mathlib.Core.Path.{ap₂}
+-- What the motion over a joint, its turning and the power at a column enclose.
+use Rattle.std.proofs.Common.{◌≡◌, ℕ, zero, suc, ◌<◌, List, [], ◌∷◌, length, Result, Ok, Err, IfOk, refl, sym, ap, ◌∙◌, arith}
 use Rattle.std.specs.List.{AllZip}
-use Rattle.rb_frac.specs.Ops.{V3, vadd, vscale, sum}
+use Rattle.rb_frac.specs.Ops.{vadd, vscale, sum}
 use Rattle.rb_frac.specs.Frac.{Frac, Same, fracs, add, mul}
 use Rattle.rb_frac.specs.Pairs.{dot, PairsRelate}
-use Rattle.rb_frac.specs.Tables.{nothing, Vectors}
-use Rattle.rb_frac.specs.Spatial.{Motion, Force, Spatials, Motions, Forces}
-use Rattle.rb_frac.specs.Mechanics.{plus, scaled, power_of}
+use Rattle.rb_frac.specs.Spatial.{Motion, Force, Spatials, Motions}
+use Rattle.rb_frac.specs.Mechanics.{plus, scaled}
 use Rattle.rb_frac.proofs.Rational.{cls, cls-zero, exact, qo, rats, ◌+ℚ◌}
 use Rattle.rb_frac.proofs.Hom.{cls_of_add}
 use Rattle.rb_frac.proofs.Sums.{sum-zero, sum_first, sum_ext}
 use Rattle.rb_frac.proofs.Transfer.{cls-sum}
 use Rattle.rb_num.specs.declared.interval.NumFault.{NumFault}
-use Rattle.rb_num.specs.Interval.{Interval, zero_interval}
+use Rattle.rb_num.specs.Interval.{Interval}
 use Rattle.rb_num.specs.Fraction.{LiesIn}
 use Rattle.rb_num.specs.Arith.{Arith, intervals, fractions}
 use Rattle.rb_num.proofs.Same.{lies_in_same}
 use Rattle.rb_num.proofs.Relates.{Relates, Met, dot_met}
 use Rattle.rb_num.proofs.Bridges.{to_intervals, ok_met, if_answer}
-use Rattle.rb_spatial.specs.Motions.{power}
-use Rattle.rb_spatial.proofs.Keep.{three_met, two_met, power_met}
+use Rattle.rb_result.specs.Steps.{◌>>=◌}
+use Rattle.rb_spatial.specs.Motions.{cross}
+use Rattle.rb_spatial.proofs.Keep.{three_met, two_met, power_met, cross_met}
 use Rattle.rb_spatial.proofs.Identities.{power-sum}
 use Rattle.rb_flat.specs.Dynamics.{none, spatial_sum}
 use Rattle.rb_flat.specs.Joint.{JointChoice, chosen_column, joint_column}
@@ -28,7 +27,7 @@ use Rattle.rb_joint.specs.declared.any.AnyJoint.{AnyJoint}
 use Rattle.rb_joint.specs.declared.any.AnyJoint.TheVariants.{Fixed, Revolute, Continuous, Prismatic, Planar, Free}
 use Rattle.rb_joint.specs.Any.{kind_of, IsOfModel, any_column}
 use Rattle.rb_joint.specs.Models.{entry_at}
-use Rattle.rb_joint.specs.Columns.{part_pairs, columns_motion, joint_motion, joint_power, EnclosesMotion, EnclosesColumnPower}
+use Rattle.rb_joint.specs.Columns.{part_pairs, columns_motion, joint_motion, joint_power, joint_turning, EnclosesMotion, EnclosesColumnPower, EnclosesTurning}
 use Rattle.rb_joint.proofs.Choices.{vectors_same, revolute_column, continuous_column, prismatic_column, planar_column_lies, free_column_lies}
 
 -- ---- it keeps each relation that the operations keep
@@ -135,3 +134,13 @@ motion_encloses joint rates r e = if_answer r (EnclosesMotion joint rates) (λ m
 
 pub power_encloses : (joint : AnyJoint) (k : ℕ) (f : Force Interval) (r : Result Interval NumFault) → r ≡ joint_power joint k f → IfOk r (EnclosesColumnPower joint k f)
 power_encloses joint k f r e = if_answer r (EnclosesColumnPower joint k f) (λ x h. power_lies joint k f x (sym e ∙ h))
+
+turning_lies : (joint : AnyJoint) (v : Motion Interval) (rates : List Interval) (m : Motion Interval) → joint_turning joint v rates ≡ Ok m → EnclosesTurning joint v rates m
+turning_lies joint v rates m e = go (joint_motion joint rates) refl e
+  where
+    go : (n : Result (Motion Interval) NumFault) → joint_motion joint rates ≡ n → (n >>= λ j. cross intervals v j) ≡ Ok m → EnclosesTurning joint v rates m
+    go (Ok j) en em = record { at = λ c p rate h hp l. ok_met em (cross_met to_intervals hp ((motion_lies joint rates j en).at c rate h l)) }
+    go (Err f) en em = absurd (cc)
+
+pub turning_encloses : (joint : AnyJoint) (v : Motion Interval) (rates : List Interval) (r : Result (Motion Interval) NumFault) → r ≡ joint_turning joint v rates → IfOk r (EnclosesTurning joint v rates)
+turning_encloses joint v rates r e = if_answer r (EnclosesTurning joint v rates) (λ m k. turning_lies joint v rates m (sym e ∙ k))

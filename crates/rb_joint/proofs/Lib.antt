@@ -5,3 +5,5 @@ pub mod Choices
 pub mod Ranges
 pub mod JointMotion
 pub mod JointMotionLies
+pub mod AxisTurns
+pub mod JointTurning

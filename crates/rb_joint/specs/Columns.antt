@@ -9,9 +9,9 @@ use Rattle.rb_frac.specs.Spatial.{Motion, Force, Motions, Forces}
 use Rattle.rb_num.specs.declared.interval.NumFault.{NumFault}
 use Rattle.rb_num.specs.Interval.{Interval, zero_interval, one_interval}
 use Rattle.rb_num.specs.Fraction.{LiesIn}
-use Rattle.rb_num.specs.Arith.{Arith, intervals, signs_of}
+use Rattle.rb_num.specs.Arith.{Arith, intervals, fractions, signs_of}
 use Rattle.rb_num.specs.Dot.{iv_dot}
-use Rattle.rb_spatial.specs.Motions.{three, two, multiple, power}
+use Rattle.rb_spatial.specs.Motions.{three, two, multiple, power, cross3, cross}
 use Rattle.rb_flat.specs.Dynamics.{spatial_sum}
 use Rattle.rb_flat.specs.Joint.{JointChoice, chosen_column, along, around}
 use Rattle.rb_joint.specs.declared.any.AnyJoint.{AnyJoint}
@@ -37,6 +37,10 @@ joint_motion joint rates = columns_motion intervals (any_column joint) rates
 abbrev pub joint_power : AnyJoint → ℕ → Force Interval → Result Interval NumFault
 joint_power joint k f = power intervals (any_column joint k) f
 
+-- how the motion over the joint changes as it moves along with the motion v
+abbrev pub joint_turning : AnyJoint → Motion Interval → List Interval → Result (Motion Interval) NumFault
+joint_turning joint v rates = joint_motion joint rates >>= λ j. cross intervals v j
+
 -- ---- the same without the products of zeros
 unfoldable pub along_axes : Interval → Interval → Interval → Result (V3 Interval) NumFault
 along_axes x y z =
@@ -55,6 +59,14 @@ motion_level x y turn =
     iv_dot ((turn, one_interval) ∷ []) >>= λ w.
     Ok (record { lin = vector u v zero_interval; ang = vector zero_interval zero_interval w })
 
+unfoldable pub turning_around : Motion Interval → V3 Interval → Interval → Result (Motion Interval) NumFault
+turning_around v a x =
+    multiple intervals x a >>= λ w. two intervals (cross3 intervals v.lin w) (cross3 intervals v.ang w)
+
+unfoldable pub turning_along : Motion Interval → V3 Interval → Interval → Result (Motion Interval) NumFault
+turning_along v a x =
+    multiple intervals x a >>= λ u. cross3 intervals v.ang u >>= λ lin. Ok (along (signs_of intervals) lin)
+
 -- ---- what encloses them
 -- the sum of the columns of each choice, each times a number from its rate
 pub record EnclosesMotion (joint : AnyJoint) (rates : List Interval) (m : Motion Interval) : Type 0 where
@@ -64,3 +76,8 @@ pub record EnclosesMotion (joint : AnyJoint) (rates : List Interval) (m : Motion
 -- the power of each force in f at column k of each choice
 pub record EnclosesColumnPower (joint : AnyJoint) (k : ℕ) (f : Force Interval) (x : Interval) : Type 0 where
   pub at : (c : JointChoice) (p : Force Frac) → IsOfModel joint c → Forces LiesIn p f → LiesIn (power_of fracs (chosen_column (kind_of joint) c k) p) x
+
+-- the product of each motion in v with the sum of the columns of each choice, each times a number from its rate
+pub record EnclosesTurning (joint : AnyJoint) (v : Motion Interval) (rates : List Interval) (m : Motion Interval) : Type 0 where
+  pub at : (c : JointChoice) (p : Motion Frac) (rate : ℕ → Frac) → IsOfModel joint c → Motions LiesIn p v → ((k : ℕ) → k < length rates → LiesIn (rate k) (entry_at rates k))
+      → Motions LiesIn (cross fractions p (spatial_sum fracs (length rates) (λ k. scaled fracs (rate k) (chosen_column (kind_of joint) c k)))) m

@@ -7,6 +7,7 @@ pub mod Places
 pub mod Frames
 pub mod Model
 pub mod Models
+pub mod Level
 pub mod Any
 pub mod Columns
 pub mod Laws

@@ -1,18 +1,20 @@
-ghost use Rattle.std.specs.Prelude.{◌≡◌, ◌<◌, [], ◌∷◌, length, IfOk, IfErr};
+ghost use Rattle.std.specs.Prelude.{◌≡◌, ◌<◌, [], ◌∷◌, length, Ok, IfOk, IfErr, IfSome};
 ghost use Rattle.rb_num.specs.Interval.{one_interval};
 ghost use Rattle.rb_num.specs.Arith.{intervals, signs_of};
 ghost use Rattle.rb_num.specs.Dot.{iv_dot};
 ghost use Rattle.rb_frac.specs.Tables.{component, nothing as nothing_of};
-ghost use Rattle.rb_spatial.specs.Motions.{pairs, two, power};
+ghost use Rattle.rb_spatial.specs.Motions.{pairs, two, power, multiple as multiple_of};
 ghost use Rattle.rb_joint.specs.Models.{entry_at, planar_column, free_column};
 ghost use Rattle.rb_joint.specs.Columns.{along_axes as along_axes_of, motion_around as motion_around_of, motion_along as motion_along_of, motion_level as motion_level_of};
 
 use crate::any::AnyJoint;
+use crate::exact::{part_times, times_one, times_part};
+use crate::level::{lone_part, part_along};
 use crate::model::JointModel;
-use rb_num::{Iv, NumFault, dot};
-use rb_spatial::{Force, Motion, Vec3, multiple};
+use rb_num::{Iv, NumFault, Sums, dot};
+use rb_spatial::{Force, Motion, Vec3};
 
-fn nothing() -> Vec3
+pub(crate) fn nothing() -> Vec3
     ensures { result ≡ nothing_of (signs_of intervals) }
 {
     Vec3::new(Iv::ZERO, Iv::ZERO, Iv::ZERO)
@@ -24,9 +26,22 @@ fn along_axes(x: Iv, y: Iv, z: Iv) -> Result<Vec3, NumFault>
     ensures exact { result ≡ along_axes_of x y z }
     ensures size { IfErr result (λ e. e ≡ NumFault.Size) }
 {
-    let x = dot(&[(x, Iv::ONE)])?;
-    let y = dot(&[(y, Iv::ONE)])?;
-    let z = dot(&[(z, Iv::ONE)])?;
+    let x = times_one(&x)?;
+    let y = times_one(&y)?;
+    let z = times_one(&z)?;
+    Ok(Vec3::new(x, y, z))
+}
+
+// An axis, each part times the rate.
+#[inline(always)]
+#[tactic(auto, unfolding(rb_spatial::specs::Motions::multiple))]
+pub(crate) fn rated(rate: &Iv, axis: &Vec3) -> Result<Vec3, NumFault>
+    ensures exact { result ≡ multiple_of intervals rate.now axis.now }
+    ensures size { IfErr result (λ e. e ≡ NumFault.Size) }
+{
+    let x = times_part(rate, &axis.x())?;
+    let y = times_part(rate, &axis.y())?;
+    let z = times_part(rate, &axis.z())?;
     Ok(Vec3::new(x, y, z))
 }
 
@@ -37,7 +52,7 @@ fn motion_around(axis: &Vec3, rates: &[Iv]) -> Result<Motion, NumFault>
     ensures exact { result ≡ motion_around_of axis.now (entry_at rates.now 0) }
     ensures size { IfErr result (λ e. e ≡ NumFault.Size) }
 {
-    let ang = multiple(rates[0], axis)?;
+    let ang = rated(&rates[0], axis)?;
     Ok(Motion {
         lin: nothing(),
         ang,
@@ -50,7 +65,7 @@ fn motion_along(axis: &Vec3, rates: &[Iv]) -> Result<Motion, NumFault>
     ensures exact { result ≡ motion_along_of axis.now (entry_at rates.now 0) }
     ensures size { IfErr result (λ e. e ≡ NumFault.Size) }
 {
-    let lin = multiple(rates[0], axis)?;
+    let lin = rated(&rates[0], axis)?;
     Ok(Motion {
         lin,
         ang: nothing(),
@@ -63,9 +78,9 @@ fn motion_level(rates: &[Iv]) -> Result<Motion, NumFault>
     ensures exact { result ≡ motion_level_of (entry_at rates.now 0) (entry_at rates.now 1) (entry_at rates.now 2) }
     ensures size { IfErr result (λ e. e ≡ NumFault.Size) }
 {
-    let x = dot(&[(rates[0], Iv::ONE)])?;
-    let y = dot(&[(rates[1], Iv::ONE)])?;
-    let turn = dot(&[(rates[2], Iv::ONE)])?;
+    let x = times_one(&rates[0])?;
+    let y = times_one(&rates[1])?;
+    let turn = times_one(&rates[2])?;
     Ok(Motion {
         lin: Vec3::new(x, y, Iv::ZERO),
         ang: Vec3::new(Iv::ZERO, Iv::ZERO, turn),
@@ -82,12 +97,47 @@ fn motion_free(rates: &[Iv]) -> Result<Motion, NumFault>
     Ok(Motion { lin, ang })
 }
 
-// The product of two vectors.
-fn product(u: &Vec3, w: &Vec3) -> Result<Iv, NumFault>
+#[inline(always)]
+fn near_product(u: &Vec3, w: &Vec3) -> Option<Iv>
+    ensures { IfSome result (λ v. iv_dot (pairs u.now w.now) ≡ Ok v) }
+{
+    Sums::none()
+        .with(&u.z(), &w.z())?
+        .with(&u.y(), &w.y())?
+        .with(&u.x(), &w.x())?
+        .sum()
+}
+
+#[cold]
+#[inline(never)]
+fn far_product(u: &Vec3, w: &Vec3) -> Result<Iv, NumFault>
     ensures exact { result ≡ iv_dot (pairs u.now w.now) }
     ensures size { IfErr result (λ e. e ≡ NumFault.Size) }
 {
     dot(&[(u.x(), w.x()), (u.y(), w.y()), (u.z(), w.z())])
+}
+
+// The product of two vectors.
+fn full_product(u: &Vec3, w: &Vec3) -> Result<Iv, NumFault>
+    ensures exact { result ≡ iv_dot (pairs u.now w.now) }
+    ensures size { IfErr result (λ e. e ≡ NumFault.Size) }
+{
+    match near_product(u, w) {
+        Some(x) => Ok(x),
+        None => far_product(u, w),
+    }
+}
+
+// The product of an axis and a vector.
+#[inline(always)]
+fn axis_product(axis: &Vec3, v: &Vec3) -> Result<Iv, NumFault>
+    ensures exact { result ≡ iv_dot (pairs axis.now v.now) }
+    ensures size { IfErr result (λ e. e ≡ NumFault.Size) }
+{
+    match lone_part(axis) {
+        Some((k, part)) => part_times(&part, &part_along(k, v)),
+        None => full_product(axis, v),
+    }
 }
 
 // The part of a force along axis `k`.
@@ -96,7 +146,7 @@ fn part(k: usize, v: &Vec3) -> Result<Iv, NumFault>
     ensures exact { result ≡ iv_dot ((one_interval, component v.now k) ∷ []) }
     ensures size { IfErr result (λ e. e ≡ NumFault.Size) }
 {
-    dot(&[(Iv::ONE, v.component(k))])
+    part_times(&Iv::ONE, &v.component(k))
 }
 
 // The power of the force at column `k` of a planar joint.
@@ -142,6 +192,7 @@ impl AnyJoint {
     }
 
     // Without the products of zeros.
+    #[inline(always)]
     fn motion_of(&self, rates: &[Iv]) -> Result<Motion, NumFault>
         requires { length rates.now ≡ column_count (kind_of self.now) }
         ensures exact { result ≡ joint_motion self.now rates.now }
@@ -172,6 +223,7 @@ impl AnyJoint {
     }
 
     // Without the products of zeros.
+    #[inline(always)]
     fn power_of(&self, k: usize, f: &Force) -> Result<Iv, NumFault>
         requires { k < column_count (kind_of self.now) }
         ensures exact { result ≡ joint_power self.now k f.now }
@@ -179,9 +231,9 @@ impl AnyJoint {
     {
         match self {
             AnyJoint::Fixed(_) => Ok(Iv::ZERO),
-            AnyJoint::Revolute(joint) => product(&joint.column(0).ang, &f.ang),
-            AnyJoint::Continuous(joint) => product(&joint.column(0).ang, &f.ang),
-            AnyJoint::Prismatic(joint) => product(&joint.column(0).lin, &f.lin),
+            AnyJoint::Revolute(joint) => axis_product(&joint.column(0).ang, &f.ang),
+            AnyJoint::Continuous(joint) => axis_product(&joint.column(0).ang, &f.ang),
+            AnyJoint::Prismatic(joint) => axis_product(&joint.column(0).lin, &f.lin),
             AnyJoint::Planar(_) => planar_part(k, f),
             AnyJoint::Free(_) => free_part(k, f),
         }

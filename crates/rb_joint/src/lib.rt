@@ -4,12 +4,15 @@
 
 mod any;
 mod columns;
+mod exact;
 mod faults;
 mod frames;
 pub mod laws;
+mod level;
 mod model;
 mod models;
 mod places;
+mod turning;
 mod turns;
 
 pub use any::AnyJoint;

@@ -6,13 +6,15 @@ ghost use Rattle.rb_flat.specs.Joint.{along as along_of, around as around_of};
 ghost use Rattle.rb_joint.specs.Models.{axial_by, place_turned, near_one as near_one_of, check_unit as check_unit_of};
 ghost use Rattle.rb_joint.specs.Models.{square_of_pair as square_of_pair_by, square_of_quaternion as square_of_quaternion_by};
 
+use crate::columns::rated;
 use crate::faults::JointFault;
 use crate::frames::sine_cosine_of;
+use crate::level::level_place;
 use crate::model::JointModel;
-use crate::places::{place_of, place_shifted};
+use crate::places::{origin_of, place_of, place_shifted};
 use crate::turns::{Quaternion, SineCosine, axis_products, turn_about, turn_level, turn_of};
 use rb_num::{Iv, NumFault, dot};
-use rb_spatial::{Frame, Motion, Place, Sym3, Vec3, multiple};
+use rb_spatial::{Frame, Motion, Place, Sym3, Vec3, product};
 use std::marker::Model;
 
 fn origin() -> Vec3
@@ -129,9 +131,13 @@ impl JointModel for Fixed {
 
     ghost column_law = { refl };
 
-    #[tactic(auto, unfolding(crate::specs::Models::fixed_place, crate::specs::Models::place_fixed))]
+    #[tactic(auto, unfolding(crate::specs::Models::fixed_place, crate::specs::Models::place_fixed, crate::specs::Places::place_shifted))]
     fn place(&self, _q: &[Iv]) -> Result<Place, JointFault> {
-        Ok(place_shifted(&self.frame, &origin())?)
+        let r = origin_of(&self.frame)?;
+        Ok(Place {
+            e: self.frame.rot.transpose(),
+            r,
+        })
     }
 
     /// There is none, and the answer is no motion.
@@ -187,12 +193,28 @@ impl Hinge {
     }
 
     // Turned by `t`.
-    #[tactic(auto, unfolding(crate::specs::Models::place_turned))]
     fn place(&self, t: &SineCosine) -> Result<Place, NumFault>
         ensures { result ≡ place_turned intervals self.now.frame self.now.axis t.now }
     {
+        match level_place(&self.frame, &self.axis, t) {
+            Some(place) => Ok(place),
+            None => self.any_place(t),
+        }
+    }
+
+    // The same, about any axis.
+    #[inline(never)]
+    #[tactic(auto, unfolding(crate::specs::Models::place_turned, crate::specs::Places::place_of))]
+    fn any_place(&self, t: &SineCosine) -> Result<Place, NumFault>
+        ensures { result ≡ place_turned intervals self.now.frame self.now.axis t.now }
+    {
         let turn = turn_about(&self.axis, &self.products, t)?;
-        place_of(&self.frame, &turn, &origin())
+        let rot = product(&self.frame.rot, &turn)?;
+        let r = origin_of(&self.frame)?;
+        Ok(Place {
+            e: rot.transpose(),
+            r,
+        })
     }
 }
 
@@ -375,7 +397,7 @@ impl JointModel for Prismatic {
 
     #[tactic(auto, unfolding(crate::specs::Models::prismatic_place, crate::specs::Models::place_along))]
     fn place(&self, q: &[Iv]) -> Result<Place, JointFault> {
-        let p = multiple(q[0], &self.axis)?;
+        let p = rated(&q[0], &self.axis)?;
         Ok(place_shifted(&self.frame, &p)?)
     }
 

@@ -1,10 +1,53 @@
-ghost use Rattle.std.specs.Prelude.{◌≡◌, IfOk, IfErr};
-ghost use Rattle.rb_num.specs.Arith.{intervals};
+ghost use Rattle.std.specs.Prelude.{◌≡◌, ◌∷◌, Ok, IfOk, IfErr, IfSome};
+ghost use Rattle.rb_num.specs.Arith.{intervals, signs_of};
+ghost use Rattle.rb_num.specs.Interval.{one_interval};
+ghost use Rattle.rb_num.specs.Dot.{iv_dot};
+ghost use Rattle.rb_frac.specs.Tables.{nothing};
+ghost use Rattle.rb_spatial.specs.Motions.{pairs};
 ghost use Rattle.rb_joint.specs.Places.{outside as outside_of, place_of as place_by, place_shifted as place_shifted_of};
 ghost use Rattle.rb_joint.specs.Places.{EnclosesOutside, EnclosesPlaceOf, EnclosesPlaceShifted};
 
-use rb_num::{Iv, NumFault, dot};
+use crate::exact::is_narrow_vector;
+use rb_num::{Iv, NumFault, Sums, dot};
 use rb_spatial::{Frame, Mat3, Place, Vec3, product};
+
+#[inline(always)]
+fn near_sum(at: &Iv, u: &Vec3, p: &Vec3) -> Option<Iv>
+    ensures { IfSome result (λ v. iv_dot ((at.now, one_interval) ∷ pairs u.now p.now) ≡ Ok v) }
+{
+    Sums::none()
+        .with(&u.z(), &p.z())?
+        .with(&u.y(), &p.y())?
+        .with(&u.x(), &p.x())?
+        .with(at, &Iv::ONE)?
+        .sum()
+}
+
+#[cold]
+#[inline(never)]
+fn far_sum(at: &Iv, u: &Vec3, p: &Vec3) -> Result<Iv, NumFault>
+    ensures exact { result ≡ iv_dot ((at.now, one_interval) ∷ pairs u.now p.now) }
+    ensures size { IfErr result (λ e. e ≡ NumFault.Size) }
+{
+    dot(&[
+        (*at, Iv::ONE),
+        (u.x(), p.x()),
+        (u.y(), p.y()),
+        (u.z(), p.z()),
+    ])
+}
+
+// `at + u p`
+#[inline(always)]
+fn sum(at: &Iv, u: &Vec3, p: &Vec3) -> Result<Iv, NumFault>
+    ensures exact { result ≡ iv_dot ((at.now, one_interval) ∷ pairs u.now p.now) }
+    ensures size { IfErr result (λ e. e ≡ NumFault.Size) }
+{
+    match near_sum(at, u, p) {
+        Some(x) => Ok(x),
+        None => far_sum(at, u, p),
+    }
+}
 
 /// The point `p` of a frame, seen from where the frame stands: `at + rot p`, one sum of four products
 /// for each part. It is refused with `Size` exactly where one of these is.
@@ -14,26 +57,23 @@ pub fn outside(f: &Frame, p: &Vec3) -> Result<Vec3, NumFault>
     ensures encloses { IfOk result (EnclosesOutside f.now p.now) }
     ensures size { IfErr result (λ e. e ≡ NumFault.Size) }
 {
-    let (r, s, t) = (f.rot.x(), f.rot.y(), f.rot.z());
-    let x = dot(&[
-        (f.at.x(), Iv::ONE),
-        (r.x(), p.x()),
-        (r.y(), p.y()),
-        (r.z(), p.z()),
-    ])?;
-    let y = dot(&[
-        (f.at.y(), Iv::ONE),
-        (s.x(), p.x()),
-        (s.y(), p.y()),
-        (s.z(), p.z()),
-    ])?;
-    let z = dot(&[
-        (f.at.z(), Iv::ONE),
-        (t.x(), p.x()),
-        (t.y(), p.y()),
-        (t.z(), p.z()),
-    ])?;
+    let x = sum(&f.at.x(), &f.rot.x(), p)?;
+    let y = sum(&f.at.y(), &f.rot.y(), p)?;
+    let z = sum(&f.at.z(), &f.rot.z(), p)?;
     Ok(Vec3::new(x, y, z))
+}
+
+/// The origin of a frame, seen from where the frame stands.
+#[inline(always)]
+pub(crate) fn origin_of(f: &Frame) -> Result<Vec3, NumFault>
+    ensures exact { result ≡ outside_of intervals f.now (nothing (signs_of intervals)) }
+    ensures size { IfErr result (λ e. e ≡ NumFault.Size) }
+{
+    if is_narrow_vector(&f.at) {
+        Ok(f.at)
+    } else {
+        outside(f, &Vec3::new(Iv::ZERO, Iv::ZERO, Iv::ZERO))
+    }
 }
 
 /// The place of a joint that turns by `turn` and shifts by `p` in its frame: `e` is the transpose of

@@ -3,7 +3,7 @@ use crate::{
     Revolute, SineCosine, frame_of, turn_of,
 };
 use rb_num::{Iv, NumFault, S};
-use rb_spatial::{Frame, Mat3, Motion, Place, Vec3};
+use rb_spatial::{Force, Frame, Mat3, Motion, Place, Vec3};
 use std::process::Abort;
 use std::test::Fail;
 
@@ -154,6 +154,156 @@ fn continuous_quarter_turns(rt: HostRuntime) -> Result<(), Fail> {
         assert_eq!(rt; joint.place(&[Iv::ZERO, Iv::ONE]), Ok(want));
         assert_eq!(rt; joint.column(0).ang, *axis);
     }
+    Ok(())
+}
+
+// Against an axis the turn goes back.
+#[test]
+fn quarter_turns_back(rt: HostRuntime) -> Result<(), Fail> {
+    let tables = [
+        Mat3::new(vector(1, 0, 0), vector(0, 0, -1), vector(0, 1, 0)),
+        Mat3::new(vector(0, 0, 1), vector(0, 1, 0), vector(-1, 0, 0)),
+        Mat3::new(vector(0, -1, 0), vector(1, 0, 0), vector(0, 0, 1)),
+    ];
+    let axes = [vector(-1, 0, 0), vector(0, -1, 0), vector(0, 0, -1)];
+    for (axis, e) in axes.iter().zip(tables.iter()) {
+        let want = Place {
+            e: *e,
+            r: vector(0, 0, 0),
+        };
+        let joint = Continuous::new(world(), *axis)?;
+        assert_eq!(rt; joint.place(&[Iv::ZERO, Iv::ONE]), Ok(want));
+    }
+    Ok(())
+}
+
+// A turn with the cosine 3/5 and the sine 4/5 about x, in a frame whose x axis is y outside.
+#[test]
+fn turn_in_a_turned_frame(rt: HostRuntime) -> Result<(), Fail> {
+    let joint = Continuous::new(turned_frame(), vector(1, 0, 0))?;
+    let place = joint.place(&[parts(6000), parts(8000)])?;
+    assert_eq!(rt; place.r, vector(1, 2, 3));
+    assert_eq!(rt; place.e.x(), vector(0, 1, 0));
+    assert_eq!(rt; place.e.y(), Vec3::new(parts(-6000), Iv::ZERO, parts(8000)));
+    assert_eq!(rt; place.e.z(), Vec3::new(parts(8000), Iv::ZERO, parts(6000)));
+    Ok(())
+}
+
+// The squares of 3/5 and 4/5 have the sum one.
+#[test]
+fn half_turn_about_an_oblique_axis(rt: HostRuntime) -> Result<(), Fail> {
+    let axis = Vec3::new(parts(6000), Iv::ZERO, parts(8000));
+    let joint = Continuous::new(world(), axis)?;
+    let place = joint.place(&[whole(-1), Iv::ZERO])?;
+    assert_eq!(rt; place.e.x(), Vec3::new(parts(-2800), Iv::ZERO, parts(9600)));
+    assert_eq!(rt; place.e.y(), vector(0, -1, 0));
+    assert_eq!(rt; place.e.z(), Vec3::new(parts(9600), Iv::ZERO, parts(2800)));
+    Ok(())
+}
+
+// The frame of the world, with this origin.
+fn world_at(x: Iv) -> Frame {
+    Frame {
+        rot: world().rot,
+        at: Vec3::new(x, Iv::ZERO, Iv::ZERO),
+    }
+}
+
+// An origin is taken as it is, as long as its product with one is within the limit.
+#[test]
+fn far_origins(rt: HostRuntime) -> Result<(), Fail> {
+    let ends = [
+        Iv::new(0, 1 << 60),
+        Iv::new(0, (1 << 60) + 1),
+        Iv::new(1 << 80, 1 << 80),
+    ];
+    for x in ends {
+        let frame = world_at(x);
+        let still = Fixed::new(frame).place(&[])?;
+        assert_eq!(rt; still.r, frame.at);
+        let turned = Continuous::new(frame, vector(0, 0, 1))?.place(&[Iv::ZERO, Iv::ONE])?;
+        assert_eq!(rt; turned.r, frame.at);
+        assert_eq!(rt; turned.e.x(), vector(0, 1, 0));
+    }
+    let frame = world_at(Iv::new(0, 1 << 81));
+    assert_eq!(rt; Fixed::new(frame).place(&[]), Err(JointFault::Size));
+    let hinge = Continuous::new(frame, vector(0, 0, 1))?;
+    assert_eq!(rt; hinge.place(&[Iv::ZERO, Iv::ONE]), Err(JointFault::Size));
+    Ok(())
+}
+
+fn motion(lin: Vec3, ang: Vec3) -> Motion {
+    Motion { lin, ang }
+}
+
+#[test]
+fn motions_and_powers(rt: HostRuntime) -> Result<(), Fail> {
+    let zero = vector(0, 0, 0);
+    let force = Force {
+        lin: vector(7, 8, 9),
+        ang: vector(1, 2, 3),
+    };
+    let back = AnyJoint::Continuous(Continuous::new(world(), vector(0, -1, 0))?);
+    assert_eq!(rt; back.motion(&[whole(3)])?, motion(zero, vector(0, -3, 0)));
+    assert_eq!(rt; back.power(0, &force)?, whole(-2));
+    let slider = AnyJoint::Prismatic(Prismatic::new(world(), vector(0, 0, 1)));
+    assert_eq!(rt; slider.motion(&[whole(3)])?, motion(vector(0, 0, 3), zero));
+    assert_eq!(rt; slider.power(0, &force)?, whole(9));
+    let axis = Vec3::new(parts(6000), Iv::ZERO, parts(8000));
+    let oblique = AnyJoint::Revolute(Revolute::new(world(), axis)?);
+    assert_eq!(rt;
+        oblique.motion(&[whole(10)])?,
+        motion(zero, vector(6, 0, 8))
+    );
+    assert_eq!(rt; oblique.power(0, &force)?, whole(3));
+    let level = AnyJoint::Planar(Planar::new(world()));
+    let rates = [whole(1), whole(2), whole(3)];
+    assert_eq!(rt;
+        level.motion(&rates)?,
+        motion(vector(1, 2, 0), vector(0, 0, 3))
+    );
+    assert_eq!(rt; level.power(1, &force)?, whole(8));
+    assert_eq!(rt; level.power(2, &force)?, whole(3));
+    Ok(())
+}
+
+// A rate is taken as it is, as long as its product with one is within the limit.
+#[test]
+fn far_rates(rt: HostRuntime) -> Result<(), Fail> {
+    let back = AnyJoint::Continuous(Continuous::new(world(), vector(0, 0, -1))?);
+    let far = Iv::new(1 << 79, 1 << 80);
+    let want = Vec3::new(Iv::ZERO, Iv::ZERO, Iv::new(-(1 << 80), -(1 << 79)));
+    assert_eq!(rt; back.motion(&[far])?.ang, want);
+    let past = Iv::new(0, 1 << 81);
+    assert_eq!(rt; back.motion(&[past]), Err(NumFault::Size));
+    Ok(())
+}
+
+// Worked out by hand for the motion with the linear part (1, 2, 3) and the angular part (4, 5, 6).
+#[test]
+fn turnings(rt: HostRuntime) -> Result<(), Fail> {
+    let zero = vector(0, 0, 0);
+    let v = motion(vector(1, 2, 3), vector(4, 5, 6));
+    let hinges = [
+        (vector(1, 0, 0), vector(0, 6, -4), vector(0, 12, -10)),
+        (vector(0, -1, 0), vector(6, 0, -2), vector(12, 0, -8)),
+        (vector(0, 0, 1), vector(4, -2, 0), vector(10, -8, 0)),
+    ];
+    for (axis, lin, ang) in hinges {
+        let hinge = AnyJoint::Revolute(Revolute::new(world(), axis)?);
+        assert_eq!(rt; hinge.turning(&v, &[whole(2)])?, motion(lin, ang));
+        let slider = AnyJoint::Prismatic(Prismatic::new(world(), axis));
+        assert_eq!(rt; slider.turning(&v, &[whole(2)])?, motion(ang, zero));
+    }
+    let axis = Vec3::new(parts(6000), Iv::ZERO, parts(8000));
+    let oblique = AnyJoint::Continuous(Continuous::new(world(), axis)?);
+    let want = motion(vector(16, 10, -12), vector(40, 4, -30));
+    assert_eq!(rt; oblique.turning(&v, &[whole(10)])?, want);
+    let level = AnyJoint::Planar(Planar::new(world()));
+    let want = motion(vector(-6, 3, 3), vector(15, -12, 0));
+    assert_eq!(rt; level.turning(&v, &[whole(1), whole(2), whole(3)])?, want);
+    let still = AnyJoint::Fixed(Fixed::new(world()));
+    assert_eq!(rt; still.turning(&v, &[])?, motion(zero, zero));
     Ok(())
 }
 
