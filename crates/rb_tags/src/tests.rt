@@ -381,6 +381,16 @@ fn names(rt: HostRuntime) -> Result<(), Fail> {
     Ok(())
 }
 
+#[test]
+fn texts_are_compared(rt: HostRuntime) -> Result<(), Fail> {
+    let lift = Text::copy(rt.alloc(), "lift")?;
+    assert!(rt; lift == Text::copy(rt.alloc(), "lift")?);
+    for other in ["", "lif", "Lift", "lift "] {
+        assert!(rt; lift != Text::copy(rt.alloc(), other)?);
+    }
+    Ok(())
+}
+
 fn is_shared<T: Send + Sync>() {}
 
 // Threads may send and share each public type.

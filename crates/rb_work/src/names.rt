@@ -1,4 +1,4 @@
-ghost use Rattle.std.specs.Prelude.{◌≡◌};
+ghost use Rattle.std.specs.Prelude.{◌≡◌, ◌≤◌, length};
 ghost use Rattle.rb_work.specs.Names.{word_of, one, two, named_as, pivot_as};
 
 use rb_num::{Iv, NumFault};
@@ -86,7 +86,8 @@ pub enum NameKind {
 impl NameKind {
     /// The kind as it is printed.
     pub fn word(self) -> &'static str
-        ensures { result.now ≡ word_of self }
+        ensures word { result.now ≡ word_of self }
+        ensures short { length result.now ≤ 3 }
     {
         match self {
             NameKind::q => "q",
