@@ -16,7 +16,7 @@ use Rattle.rb_tree.specs.Columns.{full_columns, own_columns, own_entries, unless
 use Rattle.rb_tree.proofs.ListLaws.{IsListOf-get}
 
 -- ---- sums of the first bodies
-few_columns : (k : Kind) → Flat.column_count k ≤ 7
+pub few_columns : (k : Kind) → Flat.column_count k ≤ 6
 few_columns Flat.Fixed = omega arith
 few_columns Flat.Revolute = omega arith
 few_columns Flat.Continuous = omega arith
@@ -24,7 +24,7 @@ few_columns Flat.Prismatic = omega arith
 few_columns Flat.Planar = omega arith
 few_columns Flat.Free = omega arith
 
-few_entries : (k : Kind) → Flat.entry_count k ≤ 7
+pub few_entries : (k : Kind) → Flat.entry_count k ≤ 7
 few_entries Flat.Fixed = omega arith
 few_entries Flat.Revolute = omega arith
 few_entries Flat.Continuous = omega arith
@@ -48,11 +48,11 @@ sum_small f few (b ∷ bodies) (suc k) = omega (arith, few b, sum_cons f b bodie
 
 pub full_small : (bodies : List Body) (k : ℕ) → (start_behind bodies k).full ≤ 1 + 7 * k
 unfolding start_behind
-full_small bodies k = omega (arith, sum_small full_columns (λ b. few_columns (kind_of b.joint)) bodies k)
+full_small bodies k = omega (arith, sum_small full_columns (λ b. omega (arith, few_columns (kind_of b.joint))) bodies k)
 
 pub column_small : (bodies : List Body) (k : ℕ) → (start_behind bodies k).column ≤ 1 + 7 * k
 unfolding start_behind
-column_small bodies k = omega (arith, sum_small own_columns (λ b. unless_le b.mimic _ 7 (few_columns (kind_of b.joint))) bodies k)
+column_small bodies k = omega (arith, sum_small own_columns (λ b. unless_le b.mimic _ 7 (omega (arith, few_columns (kind_of b.joint)))) bodies k)
 
 pub entry_small : (bodies : List Body) (k : ℕ) → (start_behind bodies k).entry ≤ 7 * k
 unfolding start_behind
@@ -172,7 +172,7 @@ unfolding nearest_column
 nearest_first bodies = sym (nearest_at_world bodies 0)
 
 pub sum_small_own : (bodies : List Body) (k : ℕ) → sum_by own_columns (take k bodies) ≤ 7 * k
-sum_small_own bodies k = sum_small own_columns (λ b. unless_le b.mimic _ 7 (few_columns (kind_of b.joint))) bodies k
+sum_small_own bodies k = sum_small own_columns (λ b. unless_le b.mimic _ 7 (omega (arith, few_columns (kind_of b.joint)))) bodies k
 
 pub parent_is : (bodies : List Body) (k : ℕ) (b : Body) → slice_get bodies k ≡ Some b → parent_at bodies (suc k) ≡ b.parent
 parent_is bodies k b h = ap (λ (o : Option Body). option_map_or (λ (x : Body). x.parent) o 0) h

@@ -13,8 +13,7 @@ use Rattle.rb_tree.specs.Columns.{own_columns, unless_mimic, mimic_or, body_at, 
 use Rattle.rb_tree.specs.Robot.{Tree, HasBody, HasColumn, AreBodies}
 use Rattle.rb_tree.specs.Shape.{kind_at, master_of, master_at, shape_of}
 use Rattle.rb_tree.proofs.ColumnLaws.{sum_more}
-use Rattle.rb_tree.proofs.PlaceEncloses.{body_there}
-use Rattle.rb_tree.proofs.Shapes.{mimics_fit}
+use Rattle.rb_tree.proofs.Shapes.{body_there, mimics_fit}
 use Rattle.rb_tree.proofs.Spans.{sum_rises, owner_there_at, column_within, sum_within}
 
 -- ---- of a body by its number

@@ -41,6 +41,11 @@ IsListOf-first f y e = IsListOf-push 0 f [] y (IsListOf-none f) e
 pub IsListOf-get : {X : Type 0} (n : ℕ) (f : ℕ → X) (xs : List X) (k : ℕ) (d : X) → IsListOf n f xs → k < n → get_or xs k d ≡ f k
 IsListOf-get n f xs k d l h = get_or_from_slice_get xs k (f k) d (l.at k h)
 
+pub item_there : {X : Type 0} (xs : List X) (k : ℕ) → k < length xs → (x : X) × (slice_get xs k ≡ Some x)
+item_there [] k h = absurd (omega arith)
+item_there (x ∷ xs) zero h = (x, refl)
+item_there (x ∷ xs) (suc k) h = item_there xs k (omega arith)
+
 pub same_item : {X : Type 0} (xs : List X) (i j : ℕ) (x y : X) → i ≡ j → slice_get xs i ≡ Some x → slice_get xs j ≡ Some y → x ≡ y
 same_item xs i j x y e is_x is_y = same_Some x y (sym is_x ∙ (ap (slice_get xs) e ∙ is_y))
 

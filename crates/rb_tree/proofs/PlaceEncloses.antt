@@ -1,6 +1,6 @@
 -- The place of each body of each choice lies in its value.
-use Rattle.std.proofs.Common.{◌≡◌, ℕ, zero, suc, ◌-◌, ◌<◌, ◌≤◌, List, [], ◌∷◌, length, take, Option, None, Some, Result, Ok, Err, refl, sym, ap, ◌∙◌, subst, arith}
-use Rattle.std.specs.List.{AllZip, slice_get}
+use Rattle.std.proofs.Common.{◌≡◌, ℕ, ◌-◌, ◌≤◌, List, [], ◌∷◌, take, Option, None, Some, Ok, refl, sym, ap, ◌∙◌, subst, arith}
+use Rattle.std.specs.List.{AllZip}
 use Rattle.std.specs.Option.{option_map_or}
 use Rattle.rb_frac.specs.Frac.{Frac, Same, fracs, add, mul}
 use Rattle.rb_frac.specs.Pairs.{dot}
@@ -15,7 +15,6 @@ use Rattle.rb_num.specs.Dot.{iv_dot}
 use Rattle.rb_num.proofs.Same.{lies_in_same}
 use Rattle.rb_num.proofs.Relates.{dot_met}
 use Rattle.rb_num.proofs.Bridges.{to_intervals, ok_met, one_lies}
-use Rattle.rb_result.specs.Steps.{◌>>=◌}
 use Rattle.rb_result.proofs.Results.{same_ok, then-ok, told-ok}
 use Rattle.rb_flat.specs.Joint as Kinds
 use Rattle.rb_flat.specs.Joint.{Kind, JointChoice, entry_count, chosen_place}
@@ -23,7 +22,7 @@ use Rattle.rb_flat.specs.Choice as Flat
 use Rattle.rb_flat.specs.Choice.{Choice, IsChoice, JointChosen, EntriesChosen, MimicBrackets, items_from}
 use Rattle.rb_flat.specs.Mechanism.{mechanism_of}
 use Rattle.rb_joint.specs.Any.{kind_of, any_place}
-use Rattle.rb_body.specs.Raw.{joint_brackets}
+use Rattle.rb_body.specs.Raw.{joint_brackets, kind_of as kind_of_raw}
 use Rattle.rb_body.specs.Joint.{EnclosesJoint}
 use Rattle.rb_work.specs.declared.names.RowFault.{RowFault}
 use Rattle.rb_work.specs.declared.names.NameKind.TheVariants as K
@@ -31,27 +30,18 @@ use Rattle.rb_work.specs.Names.{one, named_as}
 use Rattle.rb_work.specs.View.{View, q_at, X_at}
 use Rattle.rb_tree.specs.declared.robot.Body.{Body}
 use Rattle.rb_tree.specs.declared.robot.Mimic.{Mimic}
-use Rattle.rb_tree.specs.Columns.{body_at, leader_at, first_entry, start_behind}
+use Rattle.rb_tree.specs.Columns.{body_at, first_entry, start_behind}
 use Rattle.rb_tree.specs.Numbers.{joint_at, mimic_at, no_joint}
-use Rattle.rb_tree.specs.Robot.{Tree, HasBody, FollowsMaster, AreBodies, mimic_brackets}
+use Rattle.rb_tree.specs.Robot.{Tree, HasBody, AreBodies, mimic_brackets}
 use Rattle.rb_tree.specs.Shape.{kind_at, master_of, master_at, shape_of, no_mimic, following_at, brackets_of}
 use Rattle.rb_tree.specs.Shape as Shape
 use Rattle.rb_tree.specs.State.{Row, at_place, state_brackets}
 use Rattle.rb_tree.specs.Places.{padded, entries_by, q_rule, X_rule, ArePlaces, EnclosesPlaces}
-use Rattle.rb_tree.proofs.ListLaws.{All-at}
-use Rattle.rb_tree.proofs.Shapes.{encloses_joint, mimics_fit}
+use Rattle.rb_tree.proofs.ColumnLaws.{few_entries}
+use Rattle.rb_tree.proofs.Shapes.{body_there, kept_at, encloses_joint, mimics_fit}
 use Rattle.rb_tree.proofs.Entries.{take_padded, length-items, leader_own, leader_master}
 
 -- ---- bodies by their number
-body_in : (bodies : List Body) (k : ℕ) → k < length bodies → (body : Body) × (slice_get bodies k ≡ Some body)
-body_in [] k h = absurd (omega arith)
-body_in (body ∷ bodies) zero h = (body, refl)
-body_in (body ∷ bodies) (suc k) h = body_in bodies k (omega arith)
-
-pub body_there : (bodies : List Body) (i : ℕ) → 1 ≤ i → i ≤ length bodies → (body : Body) × (body_at bodies i ≡ Some body)
-body_there bodies zero low high = absurd (omega arith)
-body_there bodies (suc k) low high = body_in bodies k (omega arith)
-
 pub kind_same : (bodies : List Body) (i : ℕ) → kind_at bodies i ≡ kind_of (joint_at bodies i)
 kind_same bodies i = go (body_at bodies i)
   where
@@ -116,14 +106,6 @@ module _ (tree : Tree) (row : Row) (kept : AreBodies tree.bodies) (c : Choice) (
       let taken : take n (padded 7 items) ≡ items =
       subst (λ k. take k (padded 7 items) ≡ items) (length-items (at_place row.q) (first_entry tree.bodies i) n) (take_padded 7 items (omega (arith, length-items (at_place row.q) (first_entry tree.bodies i) n))) in
       subst (λ xs. AllZip LiesIn (c.joint i).entries xs) (sym taken ∙ ap (take n) (same_ok {E = RowFault} _ _ e)) at_n
-    where
-      few_entries : (k : Kind) → entry_count k ≤ 7
-      few_entries Kinds.Fixed = omega arith
-      few_entries Kinds.Revolute = omega arith
-      few_entries Kinds.Continuous = omega arith
-      few_entries Kinds.Prismatic = omega arith
-      few_entries Kinds.Planar = omega arith
-      few_entries Kinds.Free = omega arith
   entries_lie i body (Some mimic) q has is em e =
       let bodies = tree.bodies in
       let b = chosen.bodies i (record { from = has.from; to = has.to }) in
@@ -149,26 +131,39 @@ module _ (tree : Tree) (row : Row) (kept : AreBodies tree.bodies) (c : Choice) (
       let zip : AllZip LiesIn (follows.entry ∷ []) (s.0 ∷ []) = (lies, tt) in
       rw count (rw taken (subst (λ xs. AllZip LiesIn xs (s.0 ∷ [])) (sym follows.entries) zip))
 
-  pub place_lies : (w : View) (i : ℕ) → ArePlaces tree row w → HasBody tree i → Places LiesIn (chosen_place (kind_at tree.bodies i) (c.joint i)) (X_at w i)
-  unfolding q_rule X_rule
-  place_lies w i h has =
+  -- the joint of body i with what it encloses, and its numbers in the choice
+  pub record ModelAt (i : ℕ) : Type 0 where
+    pub body : Body
+    pub there : body_at tree.bodies i ≡ Some body
+    pub is : joint_at tree.bodies i ≡ body.joint
+    pub encloses : EnclosesJoint body.joint body.joint_raw
+    pub numbers : JointChosen (kind_of_raw body.joint_raw.kind) (c.joint i) (joint_brackets body.joint_raw)
+
+  pub model_at : (i : ℕ) → HasBody tree i → ModelAt i
+  model_at i has =
       let found = body_there tree.bodies i has.from has.to in
       let body = found.0 in
       let b = chosen.bodies i (record { from = has.from; to = has.to }) in
-      let own = All-at _ tree.bodies (i - 1) body kept.kept (at_before i body found.1 has.from) in
-      let encl = encloses_joint body own in
-      let jc : JointChosen (kind_of body.joint) (c.joint i) (joint_brackets body.joint_raw) =
+      let encl = encloses_joint body (kept_at tree.bodies i body kept.kept found.1) in
+      let numbers : JointChosen (kind_of body.joint) (c.joint i) (joint_brackets body.joint_raw) =
       subst (λ (o : Option Body). JointChosen (option_map_or (λ (b : Body). kind_of b.joint) o Kinds.Fixed) (c.joint i) (option_map_or (λ (b : Body). joint_brackets b.joint_raw) o Shape.no_joint)) found.1 b.joint in
-      let is : joint_at tree.bodies i ≡ body.joint = ap (λ (o : Option Body). option_map_or (λ (b : Body). b.joint) o no_joint) found.1 in
-      let zip = entries_lie i body (mimic_at tree.bodies i) (q_at w i) has found.1 refl (h.each_q i has) in
-      let placed : any_place body.joint (take (entry_count (kind_of (joint_at tree.bodies i))) (q_at w i)) ≡ Ok (X_at w i) =
-      ap (λ j. any_place j (take (entry_count (kind_of (joint_at tree.bodies i))) (q_at w i))) (sym is) ∙ told-ok _ _ _ (h.each_X i has) in
-      let lies = encl.place (c.joint i) _ (X_at w i) (subst (λ k. JointChosen k (c.joint i) (joint_brackets body.joint_raw)) encl.kind jc) zip placed in
-      subst (λ k. Places LiesIn (chosen_place k (c.joint i)) (X_at w i)) (sym encl.kind ∙ ap kind_of (sym is) ∙ sym (kind_same tree.bodies i)) lies
-    where
-      at_before : (i : ℕ) (body : Body) → body_at tree.bodies i ≡ Some body → 1 ≤ i → slice_get tree.bodies (i - 1) ≡ Some body
-      at_before zero body is low = absurd (omega arith)
-      at_before (suc k) body is low = let e : suc k - 1 ≡ k = omega arith in ap (slice_get tree.bodies) e ∙ is
+      record {
+        body = body;
+        there = found.1;
+        is = ap (λ (o : Option Body). option_map_or (λ (b : Body). b.joint) o no_joint) found.1;
+        encloses = encl;
+        numbers = subst (λ k. JointChosen k (c.joint i) (joint_brackets body.joint_raw)) encl.kind numbers;
+      }
+
+  pub place_lies : (w : View) (i : ℕ) → ArePlaces tree row w → HasBody tree i → Places LiesIn (chosen_place (kind_at tree.bodies i) (c.joint i)) (X_at w i)
+  unfolding q_rule X_rule
+  place_lies w i h has =
+      let m = model_at i has in
+      let zip = entries_lie i m.body (mimic_at tree.bodies i) (q_at w i) has m.there refl (h.each_q i has) in
+      let placed : any_place m.body.joint (take (entry_count (kind_of (joint_at tree.bodies i))) (q_at w i)) ≡ Ok (X_at w i) =
+      ap (λ j. any_place j (take (entry_count (kind_of (joint_at tree.bodies i))) (q_at w i))) (sym m.is) ∙ told-ok _ _ _ (h.each_X i has) in
+      let lies = m.encloses.place (c.joint i) _ (X_at w i) m.numbers zip placed in
+      subst (λ k. Places LiesIn (chosen_place k (c.joint i)) (X_at w i)) (sym m.encloses.kind ∙ ap kind_of (sym m.is) ∙ sym (kind_same tree.bodies i)) lies
 
 pub places_enclose : (tree : Tree) (row : Row) (w : View) → AreBodies tree.bodies → ArePlaces tree row w → EnclosesPlaces tree row w
 unfolding mechanism_of

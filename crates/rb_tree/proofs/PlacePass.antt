@@ -1,18 +1,20 @@
 -- The entries and the places, and the first refusal, are determined by the robot and the row alone.
-use Rattle.std.proofs.Common.{◌≡◌, ℕ, ◌+◌, ◌*◌, ◌<◌, ◌≤◌, List, [], ◌∷◌, length, Result, Ok, Err, inl, inr, refl, ap, sym, ◌∙◌, arith}
+use Rattle.std.proofs.Common.{◌≡◌, ℕ, ◌+◌, ◌*◌, ◌<◌, List, [], ◌∷◌, ◌++◌, length, Ok, Err, inl, inr, refl, ap, arith}
+use Rattle.std.proofs.lemmas.List.{set-get_or}
 use Rattle.rb_work.specs.Path.{Ascends}
 use Rattle.rb_work.specs.View.{View, Extent, IsSized, extent_of, q_at}
-use Rattle.rb_work.specs.Place.{Place, q_of, X_of, ValueOf, look, put}
+use Rattle.rb_work.specs.Place.{Place, q_of, X_of, ValueOf, look, put, Rule, names}
 use Rattle.rb_work.specs.declared.names.RowFault.{RowFault}
 use Rattle.rb_sweep.specs.Sweep.{Among}
-use Rattle.rb_sweep.specs.Naming.{Stands, run}
+use Rattle.rb_sweep.specs.Naming.{Naming, IsRefusedFirst, run}
 use Rattle.rb_sweep.proofs.Climbing.{climbs_upward, among_upward, run_upward}
-use Rattle.rb_sweep.proofs.NamingLaws.{found, refusal, same_values, not_both, one_refusal}
+use Rattle.rb_sweep.proofs.NamingLaws.{found, refusal, same_values, not_both, one_refusal, run_behind, refused_behind}
 use Rattle.rb_work.proofs.PlaceLaws.{Inside, Call, IsCall, naming, ordered}
 use Rattle.rb_work.proofs.Sizes.{room_for}
 use Rattle.rb_tree.specs.Robot.{Tree, HasBody}
 use Rattle.rb_tree.specs.State.{Row}
-use Rattle.rb_tree.specs.Places.{q_rule, X_rule, ArePlaces, PlacesHaveOneAnswer, rule, order, IsPlaceRefused, place_step, places_of}
+use Rattle.rb_tree.specs.Places.{X_rule, ArePlaces, PlacesHaveOneAnswer, rule, order, IsPlaceRefused}
+use Rattle.rb_tree.specs.Steps.{place_step, places_of}
 
 abbrev pub rank : Place → ℕ
 rank (q_of i) = 2 * i
@@ -100,14 +102,38 @@ module _ (tree : Tree) (row : Row) where
   abbrev some_extent : Extent
   some_extent = record { bodies = length tree.bodies; full = 0; up = []; rows = 0 }
 
+  some_call : IsCall (call tree row some_extent)
+  some_call = is_call some_extent refl (λ c low high. absurd (omega arith))
+
   pub same_places : (u w : View) → ArePlaces tree row u → ArePlaces tree row w → (m : Place) → Own tree m → look m u ≡ look m w
-  same_places u w hu hw = same_values _ _ (ordered (call tree row some_extent) (is_call some_extent refl (λ c low high. absurd (omega arith)))) u w (λ g. absurd g.1) (holds u hu) (holds w hw)
+  same_places u w hu hw = same_values _ _ (ordered (call tree row some_extent) some_call) u w (λ g. absurd g.1) (holds u hu) (holds w hw)
 
   pub places_or_refused : (u : View) (e : RowFault) → ArePlaces tree row u → IsPlaceRefused tree row e → ⊥
-  places_or_refused u e hu r = not_both _ _ (ordered (call tree row some_extent) (is_call some_extent refl (λ c low high. absurd (omega arith)))) u r.values e (λ g. absurd g.1) (holds u hu) r.first
+  places_or_refused u e hu r = not_both _ _ (ordered (call tree row some_extent) some_call) u r.values e (λ g. absurd g.1) (holds u hu) r.first
 
   pub one_place_refused : (d e : RowFault) → IsPlaceRefused tree row d → IsPlaceRefused tree row e → d ≡ e
-  one_place_refused d e q r = one_refusal _ _ (ordered (call tree row some_extent) (is_call some_extent refl (λ c low high. absurd (omega arith)))) q.values r.values d e (λ g. absurd g.1) q.first r.first
+  one_place_refused d e q r = one_refusal _ _ (ordered (call tree row some_extent) some_call) q.values r.values d e (λ g. absurd g.1) q.first r.first
+
+-- ---- a row that goes on behind the places: its order begins with theirs, whose names have the same rules
+-- putting the entries or the place that a work holds leaves it
+held : (tree : Tree) (m : Place) (w : View) → Own tree m → put m (look m w) w ≡ w
+held tree (q_of i) w k = ap (λ xs. record w { q = xs }) (set-get_or w.q i _)
+held tree (X_of i) w k = ap (λ xs. record w { X = xs }) (set-get_or w.X i _)
+held tree _ w k = absurd k
+
+module _ (tree : Tree) (row : Row) (longer : Rule) (behind : List Place)
+    (same : (m : Place) (w : View) → Own tree m → longer m w ≡ rule tree row m w) where
+  abbrev whole : Naming View RowFault
+  whole = names longer (order tree ++ behind)
+
+  -- from a work that holds the places it is found by the names behind them
+  pub run_behind_places : (w : View) → ArePlaces tree row w → run whole (order tree ++ behind) w ≡ run whole behind w
+  run_behind_places w h =
+      run_behind _ _ (ordered (call tree row (some_extent tree row)) (some_call tree row)) longer behind same w (λ m k. held tree m w k) (holds tree row w h)
+
+  -- it is refused where the places are
+  pub refused_in_places : (w : View) (e : RowFault) → IsRefusedFirst (names (rule tree row) (order tree)) w e → IsRefusedFirst whole w e
+  refused_in_places w e f = refused_behind _ _ (ordered (call tree row (some_extent tree row)) (some_call tree row)) longer behind same w e f
 
 pub one_answer : (tree : Tree) (row : Row) → PlacesHaveOneAnswer tree row
 one_answer tree row = record {

@@ -1,5 +1,6 @@
 -- What each robot keeps of a body by its number, and that its joints may follow those that they follow.
 use Rattle.std.proofs.Common.{◌≡◌, ◌≤◌, ℕ, zero, suc, List, length, Option, None, Some, IfSome, subst, sym, ◌∙◌, ap, refl, arith}
+use Rattle.std.specs.List.{AllByRecursion}
 use Rattle.std.specs.Option.{option_map_or}
 use Rattle.std.proofs.lemmas.Option.{slice_get_within}
 use Rattle.rb_flat.specs.Joint as Kinds
@@ -16,6 +17,16 @@ use Rattle.rb_tree.specs.Columns.{body_at}
 use Rattle.rb_tree.specs.Robot.{IsBodyKept, FollowsMaster, AreBodies, IsOnlyLink, HasOwnJointName, IsOnlyJoint}
 use Rattle.rb_tree.specs.Shape.{kind_at, master_of, master_at}
 use Rattle.rb_tree.specs.Laws.{MimicsFitShape}
+use Rattle.rb_tree.proofs.ListLaws.{item_there, All-at}
+
+-- ---- bodies by their number
+pub body_there : (bodies : List Body) (i : ℕ) → 1 ≤ i → i ≤ length bodies → (body : Body) × (body_at bodies i ≡ Some body)
+body_there bodies zero low high = absurd (omega arith)
+body_there bodies (suc k) low high = item_there bodies k (omega arith)
+
+pub kept_at : (bodies : List Body) (i : ℕ) (body : Body) → AllByRecursion IsBodyKept bodies → body_at bodies i ≡ Some body → IsBodyKept body
+kept_at bodies zero body all is = absurd cc
+kept_at bodies (suc k) body all is = All-at IsBodyKept bodies k body all is
 
 module _ (bodies : List Body) (kept : AreBodies bodies) (i : ℕ) (body : Body) (is : body_at bodies i ≡ Some body) where
   pub only_link : (name : List ℕ) → body.link_name ≡ name → IsOnlyLink bodies i name

@@ -9,7 +9,7 @@ use Rattle.rb_tree.specs.declared.robot.Body.{Body}
 use Rattle.rb_tree.specs.declared.robot.Mimic.{Mimic}
 use Rattle.rb_tree.specs.Columns.{full_columns, own_columns, own_entries, full_count, entry_count, full_at, entries_at, AreUps, unless_mimic, mimic_or, start_behind, body_at, parent_at, leader_at, columns_at, first_column, owners_from, nearest_within, nearest_column, body_of_column, up_of, has_mimic, column_count}
 use Rattle.rb_tree.specs.Robot.{Tree, HasBody, HasColumn}
-use Rattle.rb_tree.proofs.ListLaws.{IsListOf-get}
+use Rattle.rb_tree.proofs.ListLaws.{IsListOf-get, item_there}
 use Rattle.rb_tree.proofs.ColumnLaws.{sum_cons, sum_more, owner_in, length-owners, nearest_open, nearest_at_world}
 
 -- place k is one of the columns of the body at place j
@@ -106,16 +106,6 @@ start_column bodies k = refl
 columns_found : (bodies : List Body) (i k : ℕ) (b : Body) → i ≡ suc k → slice_get bodies k ≡ Some b → columns_at bodies i ≡ own_columns b
 columns_found bodies i k b e h = ap (columns_at bodies) e ∙ ap (λ (o : Option Body). option_map_or own_columns o 0) h
 
--- a body of the list
-record IsThere (bodies : List Body) (k : ℕ) : Type 0 where
-  body : Body
-  is : slice_get bodies k ≡ Some body
-
-body_there : (bodies : List Body) (k : ℕ) → k < length bodies → IsThere bodies k
-body_there [] k h = absurd (omega arith)
-body_there (b ∷ bodies) zero h = record { body = b; is = refl }
-body_there (b ∷ bodies) (suc k) h = let t = body_there bodies k (omega arith) in record { body = t.body; is = t.is }
-
 -- what is known of the body of a column
 record IsOwned (bodies : List Body) (i c : ℕ) : Type 0 where
   low : (start_behind bodies (i - 1)).column ≤ c
@@ -128,9 +118,9 @@ owned bodies c from to =
     let o = owner_in 1 bodies (c - 1) i found in
     let s = owner_spans 1 bodies (c - 1) i found in
     let within : i - 1 < length bodies = omega (arith, o.from, o.to) in
-    let b = (body_there bodies (i - 1) within) in
-    let own = columns_found bodies i (i - 1) b.body (omega (arith, o.from)) b.is in
-    let more = sum_more own_columns bodies (i - 1) b.body b.is in
+    let b = item_there bodies (i - 1) within in
+    let own = columns_found bodies i (i - 1) b.0 (omega (arith, o.from)) b.1 in
+    let more = sum_more own_columns bodies (i - 1) b.0 b.1 in
     record {
       low = omega (arith, start_column bodies (i - 1), s.low);
       high = omega (arith, start_column bodies (i - 1), s.high, own, more);
@@ -177,9 +167,9 @@ up_is bodies ups c r l from to is =
 -- ---- beginnings
 found_within : (f : Body → ℕ) (bodies : List Body) (k : ℕ) → k < length bodies → sum_by f (take k bodies) + option_map_or f (slice_get bodies k) 0 ≤ sum_by f bodies
 found_within f bodies k h =
-    let b = body_there bodies k h in
-    let e = ap (λ (o : Option Body). option_map_or f o 0) b.is in
-    omega (arith, e, sum_more f bodies k b.body b.is, sum_by-take-le f bodies (suc k))
+    let b = item_there bodies k h in
+    let e = ap (λ (o : Option Body). option_map_or f o 0) b.1 in
+    omega (arith, e, sum_more f bodies k b.0 b.1, sum_by-take-le f bodies (suc k))
 
 pub sum_within : (f : Body → ℕ) (tree : Tree) (i : ℕ) → HasBody tree i → sum_by f (take (i - 1) tree.bodies) + option_map_or f (body_at tree.bodies i) 0 ≤ sum_by f tree.bodies
 sum_within f tree zero h = absurd (omega (arith, h.from))

@@ -6,7 +6,7 @@ use Rattle.rb_num.specs.Interval.{Interval, zero_interval}
 use Rattle.rb_frac.specs.Spatial.{Frame}
 use Rattle.rb_frac.specs.Tables.{identity, nothing}
 use Rattle.rb_num.specs.Arith.{intervals, signs_of}
-use Rattle.rb_flat.specs.Shape.{MimicsFit}
+use Rattle.rb_flat.specs.Shape.{ParentsComeFirst, ColumnsFit, MimicsFit}
 use Rattle.rb_flat.specs.Choice.{Choice, IsChoice}
 use Rattle.rb_joint.specs.declared.any.AnyJoint.{AnyJoint}
 use Rattle.rb_joint.specs.declared.any.AnyJoint.TheVariants as Variant
@@ -67,6 +67,15 @@ abbrev pub RootStandsAtOrigin : Type 0
 RootStandsAtOrigin =
     (root : Option RootKind) (name : List ℕ) (at : ℕ) → joint_made (root_joint (root_kind root) name at)
     ≡ Ok (root_model root, record { kind = root_kind root; xyz = zeros; rpy = zeros; axis = zeros; factor = zero_interval })
+
+-- ---- the shape of a robot
+-- the parents of its bodies come first
+abbrev pub ParentsFitShape : Type 0
+ParentsFitShape = (tree : Tree) → AreBodies tree.bodies → ParentsComeFirst (shape_of tree)
+
+-- its columns are those of its bodies' joints, and each belongs to one body alone
+abbrev pub ColumnsFitShape : Type 0
+ColumnsFitShape = (tree : Tree) → AreBodies tree.bodies → ColumnsFit (shape_of tree)
 
 -- joints that follow others may
 abbrev pub MimicsFitShape : Type 0

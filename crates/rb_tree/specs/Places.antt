@@ -1,12 +1,12 @@
 -- The entries and the places of the bodies of a tree in a row, and the first of them that is refused. Featherstone, Rigid Body Dynamics
 -- Algorithms, chapter 4.
-use Rattle.std.specs.Prelude.{◌≡◌, ℕ, ◌+◌, ◌-◌, List, [], ◌∷◌, ◌++◌, length, take, replicate, slice_set, flat_map, Option, None, Some, Result, Ok, Err}
+use Rattle.std.specs.Prelude.{◌≡◌, ℕ, ◌+◌, ◌-◌, List, [], ◌∷◌, ◌++◌, length, take, replicate, flat_map, Option, None, Some, Result, Ok}
 use Rattle.rb_num.specs.Interval.{Interval, zero_interval, one_interval}
 use Rattle.rb_num.specs.Dot.{iv_dot}
 use Rattle.rb_num.specs.Fraction.{LiesIn}
 use Rattle.rb_frac.specs.Spatial as S
 use Rattle.rb_result.specs.Steps.{◌>>=◌, told_as}
-use Rattle.rb_sweep.specs.Sweep.{sweep, upward}
+use Rattle.rb_sweep.specs.Sweep.{upward}
 use Rattle.rb_sweep.specs.Naming.{IsRefusedFirst}
 use Rattle.rb_flat.specs.Joint as Kinds
 use Rattle.rb_flat.specs.Choice.{Choice, IsChoice, items_from}
@@ -14,7 +14,6 @@ use Rattle.rb_flat.specs.Mechanism.{mechanism_of}
 use Rattle.rb_joint.specs.declared.faults.JointFault.{JointFault}
 use Rattle.rb_joint.specs.declared.faults.JointFault.TheVariants as Why
 use Rattle.rb_joint.specs.Any.{kind_of, any_place}
-use Rattle.rb_work.specs.declared.names.Name.{Name}
 use Rattle.rb_work.specs.declared.names.NameKind.TheVariants.{q, X}
 use Rattle.rb_work.specs.declared.names.RowFault.{RowFault}
 use Rattle.rb_work.specs.declared.names.RowFault.TheVariants as Row
@@ -24,7 +23,7 @@ use Rattle.rb_work.specs.Place.{Place, q_of, X_of, ValueOf, look, names}
 use Rattle.rb_tree.specs.declared.robot.Body.{Body}
 use Rattle.rb_tree.specs.Numbers.{joint_at, mimic_at}
 use Rattle.rb_tree.specs.declared.robot.Mimic.{Mimic}
-use Rattle.rb_tree.specs.Columns.{body_at, full_count, first_entry, AreUps}
+use Rattle.rb_tree.specs.Columns.{full_count, first_entry, AreUps}
 use Rattle.rb_tree.specs.Robot.{Tree, HasBody}
 use Rattle.rb_tree.specs.Shape.{shape_of, brackets_of}
 use Rattle.rb_tree.specs.State.{at_place, state_brackets}
@@ -83,17 +82,6 @@ order tree = flat_map (λ i. q_of i ∷ X_of i ∷ []) (upward 1 (length tree.bo
 pub record IsPlaceRefused (tree : Tree) (row : State.Row) (e : RowFault) : Type 0 where
   pub values : View
   pub first : IsRefusedFirst (names (rule tree row) (order tree)) values e
-
--- ---- what the sweep over the bodies leaves
-unfoldable pub place_step : Tree → State.Row → ℕ → View → Result View RowFault
-place_step tree row i w =
-    q_rule tree row i >>= λ entries.
-    let w1 = record w { q = slice_set w.q i entries } in
-    X_rule tree i w1 >>= λ place.
-    Ok (record w1 { X = slice_set w1.X i place })
-
-abbrev pub places_of : Tree → State.Row → View → Result View RowFault
-places_of tree row w = sweep (place_step tree row) (upward 1 (length tree.bodies + 1)) w
 
 -- ---- what they enclose
 -- the place of each body of each choice within the brackets of the robot and of the row

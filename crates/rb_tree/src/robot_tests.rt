@@ -8,7 +8,11 @@ use std::alloc::Global;
 use std::test::*;
 
 // The robot of a file that both readers take, with a root of this kind, or its fault.
-fn robot_on(alloc: Global, text: &str, root: Option<RootKind>) -> Option<Result<Robot, TreeFault>> {
+pub(crate) fn robot_on(
+    alloc: Global,
+    text: &str,
+    root: Option<RootKind>,
+) -> Option<Result<Robot, TreeFault>> {
     let tags = read_tags(alloc, text.as_bytes()).ok()?;
     let urdf = read_urdf(alloc, &tags).ok()?;
     Some(Robot::build(alloc, &urdf, root))
@@ -372,7 +376,7 @@ fn constants_are_refused(rt: HostRuntime) -> Result<(), Fail> {
 }
 
 // A box, and an arm whose joint turns without end.
-const BOX: &str =
+pub(crate) const BOX: &str =
     "<robot name='box'><link name='box'><inertial><mass value='1'/><inertia ixx='1' iyy='1' izz='1'/></inertial></link></robot>";
 
 const SPINNING: &str =

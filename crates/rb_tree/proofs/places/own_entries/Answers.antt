@@ -1,4 +1,4 @@
-use Rattle.std.proofs.Common.{◌≡◌, ◌-◌, ap, sym, ◌∙◌, arith}
+use Rattle.std.proofs.Common.{◌≡◌, ◌-◌, ap, ◌∙◌, arith}
 use Rattle.rb_flat.specs.Joint.{entry_count}
 use Rattle.rb_joint.specs.Any.{kind_of}
 use Rattle.rb_tree.specs.Columns.{first_entry, leader_at}

@@ -1,6 +1,6 @@
 use Rattle.std.proofs.Common.{◌≡◌, ◌+◌, length}
 use Rattle.rb_sweep.specs.Sweep.{sweep, upward}
-use Rattle.rb_tree.specs.Places.{place_step, places_of}
+use Rattle.rb_tree.specs.Steps.{place_step, places_of}
 use Rattle.rb_tree.proofs.places.sweep_places.Given as goal
 
 abbrev pub invariant-loop-i : goal.invariant-loop-i
