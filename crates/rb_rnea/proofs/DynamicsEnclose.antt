@@ -1,5 +1,5 @@
 -- The one solution of the equations of motion of each choice lies in the values of a row.
-use Rattle.std.proofs.Common.{◌≡◌, ℕ, ◌+◌, ◌-◌, ◌<◌, ◌≤◌, List, [], ◌∷◌, length, replicate, Option, None, Some, if◌then◌else◌, Result, Ok, Err, refl, sym, ap, ◌∙◌, subst, arith}
+use Rattle.std.proofs.Common.{◌≡◌, ℕ, ◌+◌, ◌-◌, ◌<◌, List, [], ◌∷◌, length, replicate, Option, None, Some, if◌then◌else◌, Result, Ok, refl, sym, ap, ◌∙◌, subst}
 use Rattle.std.proofs.Math.Path.{fun_ext}
 use Rattle.std.proofs.lemmas.List.{length-replicate}
 use Rattle.std.specs.Option.{option_map_or}
@@ -13,9 +13,7 @@ use Rattle.rb_num.specs.Interval.{Interval, zero_interval}
 use Rattle.rb_num.specs.Dot.{iv_dot}
 use Rattle.rb_num.specs.Refusing.{iv_add}
 use Rattle.rb_num.specs.Fraction.{LiesIn}
-use Rattle.rb_num.specs.Arith.{intervals}
 use Rattle.rb_num.proofs.Bridges.{ok_met}
-use Rattle.rb_spatial.specs.Motions.{apply, sum_spatial}
 use Rattle.rb_flat.specs.Joint as Kinds
 use Rattle.rb_flat.specs.Joint.{Kind, chosen_column}
 use Rattle.rb_flat.specs.Body.{chosen_inertia}
@@ -31,7 +29,7 @@ use Rattle.rb_work.specs.View.{View, X_at, s_at, v_at, c_at, a_at, b_at, f_at, t
 use Rattle.rb_work.specs.Zeros.{zero_motion}
 use Rattle.rb_tree.specs.declared.robot.Body.{Body}
 use Rattle.rb_tree.specs.declared.robot.Mimic.{Mimic}
-use Rattle.rb_tree.specs.Columns.{parent_at, first_column, body_of_column}
+use Rattle.rb_tree.specs.Columns.{first_column, body_of_column}
 use Rattle.rb_tree.specs.Numbers.{joint_at, inertia_at, mimic_at}
 use Rattle.rb_tree.specs.Robot.{Tree, HasBody, AreBodies}
 use Rattle.rb_tree.specs.Robot.{mimic_brackets}
@@ -40,9 +38,10 @@ use Rattle.rb_tree.specs.State.{Row, at_place, state_brackets}
 use Rattle.rb_tree.specs.Places.{padded}
 use Rattle.rb_tree.proofs.Shapes.{mimics_fit}
 use Rattle.rb_tree.proofs.NumbersLie.{multiplier_lies, model_of, inertia_lies}
+use Rattle.rb_tree.proofs.ColumnLaws.{few_columns}
 use Rattle.rb_tree.proofs.ColumnsFit.{columns_fit, parents_first}
 use Rattle.rb_tree.proofs.PlaceEncloses.{kind_same, master_same, places_enclose}
-use Rattle.rb_rnea.specs.Rates.{joint_columns, rates_by, rates_of, motion_of}
+use Rattle.rb_rnea.specs.Rates.{motion_by, joint_columns, rates_by, rates_of, motion_of}
 use Rattle.rb_rnea.specs.Speeds.{checked_rates, s_rule, velocity_by, v_rule}
 use Rattle.rb_rnea.specs.Accelerations.{turning_by, c_rule, acceleration_by, a_rule, need_by, b_rule}
 use Rattle.rb_rnea.specs.Forces as Forces
@@ -55,19 +54,6 @@ use Rattle.rb_rnea.proofs.Pass.{Given, Found, BodyWithin, IsWithin, IsPass}
 use Rattle.rb_rnea.proofs.Listed.{filled}
 use Rattle.rb_rnea.proofs.RatesLie.{RatesWithin, rates_lie, rate_of, motion_within}
 use Rattle.rb_rnea.proofs.Lies.{dynamics_lie}
-
-few_columns : (k : Kind) → Kinds.column_count k ≤ 6
-few_columns Kinds.Fixed = omega arith
-few_columns Kinds.Revolute = omega arith
-few_columns Kinds.Continuous = omega arith
-few_columns Kinds.Prismatic = omega arith
-few_columns Kinds.Planar = omega arith
-few_columns Kinds.Free = omega arith
-
--- three steps, the first two taken as one
-two_steps : {A B C E : Type 0} (r : Result A E) (f : A → Result B E) (g : B → Result C E) → ((r >>= f) >>= g) ≡ (r >>= λ x. f x >>= g)
-two_steps (Ok x) f g = refl
-two_steps (Err e) f g = refl
 
 -- ---- the values
 abbrev given : Tree → Row → View → Given
@@ -100,16 +86,13 @@ add_share tree w i k masters j sum =
     else Ok sum
 
 a_pass : (tree : Tree) (row : Row) (w : View) → AreDynamics tree row w → IsPass (shape_of tree) (given tree row w) (found w)
-unfolding zero_motion v_rule velocity_by c_rule turning_by a_rule acceleration_by b_rule need_by f_rule Forces.add_child Forces.join_child t_rule Torques.add_power T_rule Torques.add_follower
+unfolding zero_motion v_rule velocity_by c_rule turning_by a_rule acceleration_by motion_by b_rule need_by f_rule Forces.add_child Forces.join_child t_rule Torques.add_power T_rule Torques.add_follower
 a_pass tree row w are = record {
   world_v = are.speeds.at_world;
   world_a = are.accelerations.at_world;
   each_v = λ i has. told-ok _ _ _ (are.speeds.each_v i (record { from = has.from; to = has.to }));
   each_c = λ i has. told-ok _ _ _ (are.accelerations.each_c i (record { from = has.from; to = has.to }));
-  each_a = λ i has.
-      two_steps (rates_of tree.bodies row.a i) (λ rates. motion_of tree.bodies i rates)
-      (λ j. apply intervals (X_at w i) (a_at w (parent_at tree.bodies i)) >>= λ m. sum_spatial intervals m j >>= λ n. sum_spatial intervals n (c_at w i))
-      ∙ told-ok _ _ _ (are.accelerations.each_a i (record { from = has.from; to = has.to }));
+  each_a = λ i has. told-ok _ _ _ (are.accelerations.each_a i (record { from = has.from; to = has.to }));
   each_b = λ i has. told-ok _ _ _ (are.accelerations.each_b i (record { from = has.from; to = has.to }));
   each_f = λ i has. told-ok _ _ _ (are.forces.each_f i (record { from = has.from; to = has.to }));
   each_t = λ i k has l.

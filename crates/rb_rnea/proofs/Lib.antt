@@ -6,5 +6,7 @@ pub mod MotionsLie
 pub mod ForcesLie
 pub mod Lies
 pub mod Listed
+pub mod OwnRates
+pub mod Massless
 pub mod RatesLie
 pub mod DynamicsEnclose

@@ -1,26 +1,25 @@
 -- The values of a row, and the first refusal, are determined by the robot and the row alone.
-use Rattle.std.proofs.Common.{◌≡◌, ◌↔◌, ℕ, zero, suc, ◌+◌, ◌-◌, ◌*◌, ◌<◌, ◌≤◌, List, [], ◌∷◌, ◌++◌, length, get_or, map, flat_map, Result, Ok, Err, inl, inr, refl, ap, sym, ◌∙◌, arith}
+use Rattle.std.proofs.Common.{◌≡◌, ℕ, zero, suc, ◌+◌, ◌-◌, ◌*◌, ◌<◌, ◌≤◌, List, [], ◌∷◌, ◌++◌, length, get_or, map, flat_map, Result, Ok, Err, OnOk, IfErr, inl, inr, refl, ap, sym, ◌∙◌, arith}
 use Rattle.rb_num.specs.Interval.{Interval}
 use Rattle.rb_frac.specs.Spatial.{Force}
-use Rattle.rb_num.specs.declared.interval.NumFault.{NumFault}
 use Rattle.rb_result.specs.Steps.{◌>>=◌}
 use Rattle.std.proofs.lemmas.List.{length-map, get_or-map}
 use Rattle.rb_result.proofs.Results.{same_ok, not-both, then-ok, then-err}
 use Rattle.rb_work.specs.Path.{Ascends}
 use Rattle.rb_work.specs.View.{View, Extent, IsSized, extent_of, blank_of, X_at, s_at, v_at, c_at, a_at, b_at, f_at, t_at, T_at}
 use Rattle.rb_work.specs.Zeros.{zero_motion}
-use Rattle.rb_work.specs.Place.{Place, q_of, X_of, s_of, v_of, c_of, a_of, b_of, f_of, t_of, T_of, ValueOf, look, put}
+use Rattle.rb_work.specs.Place.{Place, q_of, X_of, s_of, v_of, c_of, a_of, b_of, f_of, t_of, T_of, ValueOf, look, put, names}
 use Rattle.rb_work.specs.declared.names.RowFault.{RowFault}
-use Rattle.rb_sweep.specs.Sweep.{Among, Answers, sweep, counting_up, upward, downward}
-use Rattle.rb_sweep.specs.Naming.{Naming, Stands, run}
-use Rattle.rb_sweep.proofs.Climbing.{Climbs, climbs_append, climbs_widen, climbs_upward, climbs_downward, among_left, among_right, among_upward, among_downward, run_upward, run_downward, run_append, then_same, map_upward_same, upward_same, downward_same, length-upward}
+use Rattle.rb_sweep.specs.Sweep.{Among, Answers, upward}
+use Rattle.rb_sweep.specs.Naming.{Naming, run}
+use Rattle.rb_sweep.proofs.Climbing.{Climbs, climbs_append, climbs_widen, climbs_upward, climbs_downward, among_left, among_right, among_upward, among_downward, run_upward, run_downward, run_append, then_same, map_upward_same, upward_same, downward_same, length-upward, upward_at}
 use Rattle.rb_sweep.proofs.NamingLaws.{found, refusal, same_values, not_both, one_refusal, finds, refuses}
 use Rattle.rb_work.proofs.PlaceLaws.{Inside, Call, IsCall, naming, ordered}
 use Rattle.rb_work.proofs.Sizes.{sizes_of, sizes_for, blank_for}
 use Rattle.rb_tree.specs.Columns.{parent_at, column_count, body_of_column, first_column, up_of}
 use Rattle.rb_tree.specs.Robot.{Tree, HasBody, HasColumn, AreBodies}
 use Rattle.rb_tree.specs.State.{Row}
-use Rattle.rb_tree.specs.Places.{q_rule, X_rule, place_step, order as place_order}
+use Rattle.rb_tree.specs.Places.{q_rule, ArePlaces, IsPlaceRefused, rule as place_rule, order as place_order}
 use Rattle.rb_tree.proofs.Spans.{owner_there_at, up_below}
 use Rattle.rb_tree.proofs.PlacePass as places
 use Rattle.rb_rnea.specs.Speeds.{s_rule, velocity_by, v_rule, order as speed_order}
@@ -29,7 +28,6 @@ use Rattle.rb_rnea.specs.Forces.{join_child, add_child, f_rule, order as force_o
 use Rattle.rb_rnea.specs.Torques.{add_power, t_rule, add_follower, T_rule, body_order, column_order}
 use Rattle.rb_rnea.specs.Steps.{speed_step, acceleration_step, force_step, power_step, torque_step, speeds_of, accelerations_of, forces_of, powers_of, torques_of, sweeps_of}
 use Rattle.rb_rnea.specs.Dynamics.{AreDynamics, rule, order, IsRefused, torques_in, extent_for, answer_of, HasOneAnswer, AnswerMeans}
-use Rattle.rb_tree.specs.Places.{places_of}
 
 -- the room of each pass
 abbrev pass : Tree → ℕ
@@ -61,6 +59,10 @@ Own tree (t_of i) = HasBody tree i
 Own tree (T_of c) = HasColumn tree c
 Own tree _ = ⊥
 
+-- each name of the row gets in turn the value that its rule gives
+abbrev pub run_of : Tree → Row → View → Result View RowFault
+run_of tree row w = run (names (rule tree row) (order tree)) (order tree) w
+
 abbrev pub call : Tree → Row → Extent → Call
 call tree row extent = record {
   rule = rule tree row;
@@ -70,7 +72,7 @@ call tree row extent = record {
   Own = Own tree;
   Read = λ m. ⊥;
   rest = λ w. record w { q = []; X = []; s = []; v = []; c = []; a = []; b = []; f = []; t = []; T = [] };
-  sweep = sweeps_of tree row row.a;
+  sweep = run_of tree row;
 }
 
 -- a work with room for the bodies and the columns
@@ -275,18 +277,17 @@ then_run p r q ms ns hr hq w =
     ap (λ x. (x >>= λ t. q t)) (hr w) ∙ then_same (run p ms w) _ _ hq ∙ sym (run_append p ms ns w)
 
 module _ (tree : Tree) (row : Row) (extent : Extent) where
-  runs : (w : View) → sweeps_of tree row row.a w ≡ run (naming (call tree row extent)) (order tree) w
-  unfolding place_step force_step power_step torque_step
+  runs : (w : View) → sweeps_of tree row row.a w ≡ run (naming (call tree row extent)) (behind_places tree) w
+  unfolding behind_places force_step power_step torque_step
   runs =
       let p = naming (call tree row extent) in
       let n = length tree.bodies + 1 in
-      then_run p (places_of tree row) _ (place_order tree) _ (λ w. run_upward p (place_step tree row) (λ i. q_of i ∷ X_of i ∷ []) 1 n (λ i w low. refl) w)
-      (then_run p (speeds_of tree row) _ (speed_order tree) _ (λ w. run_upward p (speed_step tree row) (λ i. s_of i ∷ v_of i ∷ []) 1 n (speed_run tree row extent) (put (v_of 0) zero_motion w))
+      then_run p (speeds_of tree row) _ (speed_order tree) _ (λ w. run_upward p (speed_step tree row) (λ i. s_of i ∷ v_of i ∷ []) 1 n (speed_run tree row extent) (put (v_of 0) zero_motion w))
       (then_run p (accelerations_of tree (record row { a = row.a })) _ (acceleration_order tree) _
       (λ w. run_upward p (acceleration_step tree row) (λ i. c_of i ∷ a_of i ∷ b_of i ∷ []) 1 n (acceleration_run tree row extent) (put (a_of 0) (world_acceleration row) w))
       (then_run p (forces_of tree) _ (force_order tree) _ (λ w. run_downward p (force_step tree) (λ i. f_of i ∷ []) 1 n (λ i w low. refl) w)
       (then_run p (powers_of tree) (torques_of tree) (body_order tree) (column_order tree) (λ w. run_upward p (power_step tree) (λ i. t_of i ∷ []) 1 n (λ i w low. refl) w)
-      (λ w. run_upward p (torque_step tree) (λ c. T_of c ∷ []) 1 (column_count tree.bodies + 1) (λ c w low. refl) w)))))
+      (λ w. run_upward p (torque_step tree) (λ c. T_of c ∷ []) 1 (column_count tree.bodies + 1) (λ c w low. refl) w))))
 
   climbs : Climbs (rank tree) (Own tree) 2 (order tree) (9 * pass tree + (column_count tree.bodies + 1))
   climbs =
@@ -336,19 +337,10 @@ module _ (tree : Tree) (row : Row) (extent : Extent) where
     inside = inside tree extent room;
     apart = apart tree row extent;
     reads = λ n s t k g h. reads tree row kept n s t k h;
-    runs = runs;
+    runs = λ w. refl;
   }
 
 -- ---- what a row answers
-counting_up_at : (k lo i d : ℕ) → i < k → get_or (counting_up lo k) i d ≡ lo + i
-counting_up_at zero lo i d h = absurd (omega arith)
-counting_up_at (suc k) lo zero d h = omega arith
-counting_up_at (suc k) lo (suc i) d h = let e : get_or (counting_up (lo + 1) k) i d ≡ lo + 1 + i = counting_up_at k (lo + 1) i d (omega arith) in omega arith
-
-upward_at : (lo hi i d : ℕ) → i < hi - lo → get_or (upward lo hi) i d ≡ lo + i
-unfolding upward
-upward_at lo hi i d h = counting_up_at (hi - lo) lo i d h
-
 module _ (tree : Tree) (row : Row) (kept : AreBodies tree.bodies) where
   are_dynamics : (w : View) → ((m : Place) → Own tree m → rule tree row m w ≡ Ok (look m w)) → AreDynamics tree row w
   are_dynamics w h = record {
@@ -387,10 +379,10 @@ module _ (tree : Tree) (row : Row) (kept : AreBodies tree.bodies) where
   holds w h (T_of c) k = h.torques.each_T c k
   holds w h _ k = absurd k
 
-  pub row_found : (w t : View) → sizes_of w ≡ sizes_for (extent_of w) → HasRoom tree (extent_of w) → sweeps_of tree row row.a w ≡ Ok t → AreDynamics tree row t
+  row_found : (w t : View) → sizes_of w ≡ sizes_for (extent_of w) → HasRoom tree (extent_of w) → run_of tree row w ≡ Ok t → AreDynamics tree row t
   row_found w t f room e = are_dynamics t (found _ _ (ordered (call tree row (extent_of w)) (is_call tree row (extent_of w) kept room)) w t f e).holds
 
-  pub row_refused : (w : View) (e : RowFault) → sizes_of w ≡ sizes_for (extent_of w) → HasRoom tree (extent_of w) → sweeps_of tree row row.a w ≡ Err e → IsRefused tree row e
+  row_refused : (w : View) (e : RowFault) → sizes_of w ≡ sizes_for (extent_of w) → HasRoom tree (extent_of w) → run_of tree row w ≡ Err e → IsRefused tree row e
   row_refused w e f room r =
       let h = refusal _ _ (ordered (call tree row (extent_of w)) (is_call tree row (extent_of w) kept room)) w e f r in
       record { values = h.reached; first = h.first }
@@ -436,39 +428,35 @@ module _ (tree : Tree) (row : Row) (kept : AreBodies tree.bodies) where
   blank : View
   blank = blank_of (extent_for tree)
 
-  blank_runs : sweeps_of tree row row.a blank ≡ run (naming (call tree row (extent_for tree))) (order tree) blank
-  blank_runs = order_of.runs blank
-
   pub answer_is : (t : View) → AreDynamics tree row t → answer_of tree row ≡ Ok (torques_in tree t)
   unfolding answer_of blank ok
   answer_is t h =
       let r = finds _ _ (ordered (call tree row (extent_for tree)) order_of) blank t (blank_for (extent_for tree)) (λ g. absurd g.1) (holds t h) in
       let told : torques_in tree r.reached ≡ torques_in tree t =
       map_upward_same (T_at r.reached) (T_at t) 1 (column_count tree.bodies + 1) (λ c low high. r.same (T_of c) (record { from = low; to = omega arith })) in
-      ap (λ x. (x >>= λ w. ok (torques_in tree w))) (sym blank_runs ∙ r.sweeps) ∙ ap ok told
+      ap (λ x. (x >>= λ w. ok (torques_in tree w))) r.sweeps ∙ ap ok told
 
   pub answer_refused : (e : RowFault) → IsRefused tree row e → answer_of tree row ≡ Err e
   unfolding answer_of blank ok
   answer_refused e h =
       ap (λ x. (x >>= λ w. ok (torques_in tree w)))
-      (sym blank_runs ∙ refuses _ _ (ordered (call tree row (extent_for tree)) order_of) blank h.values e (blank_for (extent_for tree)) (λ g. absurd g.1) h.first)
+      (refuses _ _ (ordered (call tree row (extent_for tree)) order_of) blank h.values e (blank_for (extent_for tree)) (λ g. absurd g.1) h.first)
 
-  pub told_answer : {A : Type 0} (r : Result A RowFault) (w t : View) → sizes_of w ≡ sizes_for (extent_of w) → HasRoom tree (extent_of w) → Answers r (sweeps_of tree row row.a w) t
-      → Answers r (answer_of tree row) (torques_in tree t)
-  told_answer (Ok x) w t f room a = answer_is t (row_found w t f room a)
-  told_answer (Err e) w t f room a = answer_refused e (row_refused w e f room a)
+  pub told_answer : {A : Type 0} (r : Result A RowFault) (t : View) → OnOk r (AreDynamics tree row t) → IfErr r (IsRefused tree row) → Answers r (answer_of tree row) (torques_in tree t)
+  told_answer (Ok x) t h k = answer_is t h
+  told_answer (Err e) t h k = answer_refused e k
 
   found_of : (torques : List Interval) → answer_of tree row ≡ Ok torques → (w : View) × AreDynamics tree row w × (torques_in tree w ≡ torques)
   unfolding answer_of blank
   found_of torques e =
       let h = then-ok (run (naming (call tree row (extent_for tree))) (order tree) blank) _ torques e in
-      (h.0, row_found blank h.0 (blank_for (extent_for tree)) room (blank_runs ∙ h.1), same_ok {E = RowFault} _ _ h.2)
+      (h.0, row_found blank h.0 (blank_for (extent_for tree)) room h.1, same_ok {E = RowFault} _ _ h.2)
 
   refused_of : (e : RowFault) → answer_of tree row ≡ Err e → IsRefused tree row e
   unfolding answer_of blank ok
   refused_of e r =
       elim (then-err (run (naming (call tree row (extent_for tree))) (order tree) blank) (λ w. ok (torques_in tree w)) e r) [
-        | inl d ↦ row_refused blank e (blank_for (extent_for tree)) room (blank_runs ∙ d)
+        | inl d ↦ row_refused blank e (blank_for (extent_for tree)) room d
         | inr m ↦ absurd (not-both (ok (torques_in tree m.0)) (torques_in tree m.0) e refl m.2)
       ]
 
@@ -479,14 +467,16 @@ module _ (tree : Tree) (row : Row) (kept : AreBodies tree.bodies) where
     refused = λ e. (refused_of e, answer_refused e);
   }
 
--- ---- the places and the speeds are those of the row, whatever its accelerations
+-- ---- from a work that holds the places, which are those of the row, as are the speeds, whatever its accelerations
 module _ (tree : Tree) (row : Row) (numbers : List Interval) where
   with_numbers : Row
   with_numbers = record row { a = numbers }
 
-  places_same : (w : View) → places_of tree row w ≡ places_of tree with_numbers w
-  unfolding place_step q_rule with_numbers
-  places_same w = upward_same (place_step tree row) (place_step tree with_numbers) 1 (length tree.bodies + 1) (λ j s low high. refl) w
+  places_same : (m : Place) (w : View) → places.Own tree m → rule tree with_numbers m w ≡ place_rule tree row m w
+  unfolding q_rule with_numbers
+  places_same (q_of i) w k = refl
+  places_same (X_of i) w k = refl
+  places_same _ w k = absurd k
 
   speeds_same : (w : View) → speeds_of tree row w ≡ speeds_of tree with_numbers w
   unfolding speed_step s_rule with_numbers
@@ -495,12 +485,26 @@ module _ (tree : Tree) (row : Row) (numbers : List Interval) where
   rest_of : View → Result View RowFault
   rest_of s = accelerations_of tree with_numbers s >>= λ a. (forces_of tree a >>= λ f. (powers_of tree f >>= λ t. torques_of tree t))
 
-  pub sweeps_same : (w : View) → sweeps_of tree row numbers w ≡ sweeps_of tree (record row { a = numbers }) numbers w
+  sweeps_same : (w : View) → sweeps_of tree row numbers w ≡ sweeps_of tree (record row { a = numbers }) numbers w
   unfolding rest_of with_numbers
-  sweeps_same w =
-      ap (λ r. (r >>= λ p. (speeds_of tree row p >>= λ s. rest_of s))) (places_same w)
-      ∙ then_same (places_of tree with_numbers w) _ _ (λ p. ap (λ r. (r >>= λ s. rest_of s)) (speeds_same p))
+  sweeps_same w = ap (λ r. (r >>= λ s. rest_of s)) (speeds_same w)
 
-pub answers_same : {A S E : Type 0} (r : Result A E) (a b : Result S E) (t : S) → a ≡ b → Answers r a t → Answers r b t
-answers_same (Ok x) a b t e h = sym e ∙ h
-answers_same (Err d) a b t e h = sym e ∙ h
+  -- the sweeps behind the places leave what the run over all names does
+  sweeps_run : (w : View) → ArePlaces tree row w → sweeps_of tree row numbers w ≡ run_of tree (record row { a = numbers }) w
+  unfolding behind_places with_numbers
+  sweeps_run w h =
+      sweeps_same w ∙ runs tree with_numbers (extent_of w) w ∙ sym (places.run_behind_places tree row (rule tree with_numbers) (behind_places tree) places_same w h)
+
+  pub behind_found : (w t : View) → AreBodies tree.bodies → sizes_of w ≡ sizes_for (extent_of w) → HasRoom tree (extent_of w) → ArePlaces tree row w
+      → sweeps_of tree row numbers w ≡ Ok t → AreDynamics tree (record row { a = numbers }) t
+  behind_found w t kept f room h e = row_found tree (record row { a = numbers }) kept w t f room (sym (sweeps_run w h) ∙ e)
+
+  pub behind_refused : (w : View) (e : RowFault) → AreBodies tree.bodies → sizes_of w ≡ sizes_for (extent_of w) → HasRoom tree (extent_of w) → ArePlaces tree row w
+      → sweeps_of tree row numbers w ≡ Err e → IsRefused tree (record row { a = numbers }) e
+  behind_refused w e kept f room h r = row_refused tree (record row { a = numbers }) kept w e f room (sym (sweeps_run w h) ∙ r)
+
+  -- what is refused among the places is refused in the row
+  pub places_refused : (e : RowFault) → IsPlaceRefused tree row e → IsRefused tree (record row { a = numbers }) e
+  unfolding behind_places with_numbers
+  places_refused e h =
+      record { values = h.values; first = places.refused_in_places tree row (rule tree with_numbers) (behind_places tree) places_same h.values e h.first }

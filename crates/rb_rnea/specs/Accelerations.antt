@@ -1,9 +1,9 @@
 -- The accelerations of the bodies and the forces that they need, from the root on. Featherstone, Rigid Body Dynamics Algorithms, chapter 5.
 use Rattle.std.specs.Prelude.{◌≡◌, ℕ, ◌+◌, List, [], ◌∷◌, length, flat_map, Result, Ok}
-use Rattle.rb_num.specs.Interval.{Interval, negative_of}
+use Rattle.rb_num.specs.Interval.{Interval, zero_interval, negative_of}
 use Rattle.rb_num.specs.Arith.{intervals, signs_of}
 use Rattle.rb_frac.specs.Tables.{vector, nothing}
-use Rattle.rb_frac.specs.Spatial.{Motion, Force}
+use Rattle.rb_frac.specs.Spatial.{Motion, Force, BodyInertia}
 use Rattle.rb_result.specs.Steps.{◌>>=◌}
 use Rattle.rb_sweep.specs.Sweep.{upward}
 use Rattle.rb_spatial.specs.Motions.{apply, cross, cross_dual, sum_spatial}
@@ -19,7 +19,7 @@ use Rattle.rb_tree.specs.Columns.{parent_at}
 use Rattle.rb_tree.specs.Numbers.{inertia_at}
 use Rattle.rb_tree.specs.Robot.{Tree, HasBody}
 use Rattle.rb_tree.specs.State.{Row}
-use Rattle.rb_rnea.specs.Rates.{rates_of, motion_of}
+use Rattle.rb_rnea.specs.Rates.{motion_of, motion_by}
 
 -- the world accelerates against gravity
 abbrev pub world_acceleration : Row → Motion Interval
@@ -37,8 +37,7 @@ c_rule tree i w = named_as (one K.c i) (turning_by tree.bodies i w)
 -- the parent's acceleration, seen from the body, the joint's own, and c[i]
 unfoldable pub acceleration_by : List Body → List Interval → ℕ → View → Result (Motion Interval) NumFault
 acceleration_by bodies numbers i w =
-    rates_of bodies numbers i >>= λ rates.
-    motion_of bodies i rates >>= λ j.
+    motion_by bodies numbers i >>= λ j.
     apply intervals (X_at w i) (a_at w (parent_at bodies i)) >>= λ m.
     sum_spatial intervals m j >>= λ n.
     sum_spatial intervals n (c_at w i)
@@ -46,6 +45,12 @@ acceleration_by bodies numbers i w =
 -- a[i]: the acceleration of the body
 unfoldable pub a_rule : Tree → Row → ℕ → View → Result (Motion Interval) RowFault
 a_rule tree row i w = named_as (one K.a i) (acceleration_by tree.bodies row.a i w)
+
+-- a body with neither mass nor inertia, which needs no force
+abbrev pub massless : BodyInertia Interval
+massless =
+    let o = nothing (signs_of intervals) in
+    record { mass = zero_interval; first = o; six = record { xx = zero_interval; xy = zero_interval; xz = zero_interval; yy = zero_interval; yz = zero_interval; zz = zero_interval } }
 
 -- what moves the body, I a + v x* (I v)
 unfoldable pub need_by : List Body → ℕ → View → Result (Force Interval) NumFault

@@ -101,3 +101,7 @@ pub record HasOneAnswer (tree : Tree) (row : Row) : Type 0 where
 pub record AnswerMeans (tree : Tree) (row : Row) : Type 0 where
   pub values : (torques : List Interval) → (answer_of tree row ≡ Ok torques) ↔ ((w : View) × AreDynamics tree row w × (torques_in tree w ≡ torques))
   pub refused : (e : RowFault) → (answer_of tree row ≡ Err e) ↔ IsRefused tree row e
+
+-- all values that are what their rules give enclose the one solution of each choice
+pub record AnswerEncloses (tree : Tree) (row : Row) : Type 0 where
+  pub values : (w : View) → AreDynamics tree row w → EnclosesDynamics tree row w

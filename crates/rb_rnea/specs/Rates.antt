@@ -32,3 +32,7 @@ rates_of bodies numbers i = rates_by bodies numbers i (mimic_at bodies i)
 -- the motion over the joint of body i at these rates
 unfoldable pub motion_of : List Body → ℕ → List Interval → Result (Motion Interval) NumFault
 motion_of bodies i rates = joint_motion (joint_at bodies i) (take (joint_columns bodies i) rates)
+
+-- and at the numbers of the columns
+unfoldable pub motion_by : List Body → List Interval → ℕ → Result (Motion Interval) NumFault
+motion_by bodies numbers i = rates_of bodies numbers i >>= λ rates. motion_of bodies i rates

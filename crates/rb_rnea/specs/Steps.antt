@@ -1,4 +1,4 @@
--- What the sweeps of a row leave.
+-- What the sweeps behind the places of a row leave.
 use Rattle.std.specs.Prelude.{ℕ, ◌+◌, List, length, slice_set, Result, Ok}
 use Rattle.rb_num.specs.Interval.{Interval}
 use Rattle.rb_result.specs.Steps.{◌>>=◌}
@@ -9,7 +9,6 @@ use Rattle.rb_work.specs.Zeros.{zero_motion}
 use Rattle.rb_tree.specs.Columns.{column_count}
 use Rattle.rb_tree.specs.Robot.{Tree}
 use Rattle.rb_tree.specs.State.{Row}
-use Rattle.rb_tree.specs.Places.{places_of}
 use Rattle.rb_rnea.specs.Speeds.{s_rule, v_rule}
 use Rattle.rb_rnea.specs.Accelerations.{world_acceleration, c_rule, a_rule, b_rule}
 use Rattle.rb_rnea.specs.Forces.{f_rule}
@@ -59,8 +58,7 @@ torques_of tree w = sweep (torque_step tree) (upward 1 (column_count tree.bodies
 -- one after the other, for a row with these accelerations
 abbrev pub sweeps_of : Tree → Row → List Interval → View → Result View RowFault
 sweeps_of tree row numbers w =
-    places_of tree row w >>= λ p.
-    (speeds_of tree row p >>= λ s.
+    speeds_of tree row w >>= λ s.
     (accelerations_of tree (record row { a = numbers }) s >>= λ a.
     (forces_of tree a >>= λ f.
-    (powers_of tree f >>= λ t. torques_of tree t))))
+    (powers_of tree f >>= λ t. torques_of tree t)))

@@ -1,16 +1,18 @@
 //! The accelerations of the bodies and the forces that they need, from the root on.
 
-ghost use Rattle.std.specs.Prelude.{◌≡◌, ◌+◌, length, IfErr};
+ghost use Rattle.std.specs.Prelude.{◌≡◌, ◌↔◌, ◌+◌, length, IsTrue, IfErr};
 ghost use Rattle.rb_sweep.specs.Sweep.{Answers};
+ghost use Rattle.rb_num.specs.Interval.{zero_interval};
+ghost use Rattle.rb_work.specs.Zeros.{zero_vector, zero_force};
 ghost use Rattle.rb_tree.specs.Columns.{column_count};
 ghost use Rattle.rb_tree.specs.Robot.{HasBody};
-ghost use Rattle.rb_rnea.specs.Accelerations.{world_acceleration, turning_by, acceleration_by, need_by};
+ghost use Rattle.rb_rnea.specs.Accelerations.{world_acceleration, turning_by, acceleration_by, massless, need_by};
 ghost use Rattle.rb_rnea.specs.Steps.{acceleration_step, accelerations_of};
 
-use crate::rates::{motion_at, rates_at};
+use crate::rates::motion_by;
 use rb_num::{Iv, NumFault};
 use rb_spatial::{
-    Force, Motion, Vec3, apply, cross, cross_dual, sum_forces, sum_motions, table, times,
+    BodyInertia, Force, Motion, Vec3, apply, cross_dual, sum_forces, sum_motions, times_body,
 };
 use rb_tree::{Robot, State};
 use rb_work::{Capitals, Name, NameKind, RowFault, Work, named};
@@ -27,15 +29,15 @@ fn against_gravity(state: &State) -> Motion
 }
 
 // How the motion over the joint changes as it moves along with the body.
-#[tactic(auto, unfolding(crate::specs::Accelerations::turning_by))]
+#[tactic(auto, unfolding(crate::specs::Accelerations::turning_by, crate::specs::Rates::motion_of))]
 fn moved_along(robot: &Robot, i: u32, work: &Work) -> Result<Motion, NumFault>
     requires room { work.now.bodies ≡ length robot.now.bodies }
     requires there { HasBody robot.now i }
     ensures exact { result ≡ turning_by robot.now.bodies i work.now }
     ensures size { IfErr result (λ e. e ≡ NumFault.Size) }
 {
-    let own = motion_at(robot, i, work.s(i))?;
-    cross(work.v(i), &own)
+    let joint = robot.joint(i);
+    joint.turning(work.v(i), &work.s(i)[..joint.nv()])
 }
 
 // The acceleration of a body, from its parent's.
@@ -52,25 +54,62 @@ fn acceleration_at(
     ensures exact { result ≡ acceleration_by robot.now.bodies accelerations.now i work.now }
     ensures size { IfErr result (λ e. e ≡ NumFault.Size) }
 {
-    let rates = rates_at(robot, accelerations, i)?;
-    let own = motion_at(robot, i, &rates)?;
+    let own = motion_by(robot, accelerations, i)?;
     let carried = apply(work.X(i), work.a(robot.parent(i)))?;
     let both = sum_motions(&carried, &own)?;
     sum_motions(&both, work.c(i))
 }
 
+fn is_zero(v: Iv) -> bool
+    ensures { IsTrue result ↔ (v ≡ zero_interval) }
+{
+    v.lo() == 0 && v.hi() == 0
+}
+
+fn is_nothing(v: &Vec3) -> bool
+    ensures { IsTrue result ↔ (v.now ≡ zero_vector) }
+{
+    is_zero(v.x()) && is_zero(v.y()) && is_zero(v.z())
+}
+
+// Whether a body has neither mass nor inertia.
+fn is_massless(inertia: &BodyInertia) -> bool
+    ensures { IsTrue result ↔ (inertia.now ≡ massless) }
+{
+    let six = inertia.rotational();
+    is_zero(inertia.mass)
+        && is_nothing(&inertia.first)
+        && is_nothing(&Vec3::new(six.xx, six.xy, six.xz))
+        && is_nothing(&Vec3::new(six.yy, six.yz, six.zz))
+}
+
+// No force.
+#[tactic(auto, unfolding(rb_work::specs::Zeros::zero_force))]
+fn no_force() -> Force
+    ensures { result ≡ zero_force }
+{
+    let nothing = Vec3::new(Iv::ZERO, Iv::ZERO, Iv::ZERO);
+    Force {
+        lin: nothing,
+        ang: nothing,
+    }
+}
+
 // What moves a body.
-#[tactic(auto, unfolding(crate::specs::Accelerations::need_by))]
+#[tactic(auto, using(crate::proofs::Massless::needs_none), unfolding(crate::specs::Accelerations::need_by))]
 fn need_at(robot: &Robot, i: u32, work: &Work) -> Result<Force, NumFault>
     requires room { work.now.bodies ≡ length robot.now.bodies }
     requires there { HasBody robot.now i }
     ensures exact { result ≡ need_by robot.now.bodies i work.now }
     ensures size { IfErr result (λ e. e ≡ NumFault.Size) }
 {
-    let inertia = table(robot.inertia(i));
+    let inertia = robot.inertia(i);
+    if is_massless(inertia) {
+        return Ok(no_force());
+    }
     let v = work.v(i);
-    let force = times(&inertia, work.a(i))?;
-    let momentum = times(&inertia, v)?;
+    let force = times_body(inertia, work.a(i))?;
+    let momentum = times_body(inertia, v)?;
     let turned = cross_dual(v, &momentum)?;
     sum_forces(&force, &turned)
 }

@@ -11,3 +11,6 @@ mod speeds;
 mod torques;
 
 pub use row::{bias, rnea};
+
+#[cfg(test)]
+mod tests;

@@ -7,7 +7,7 @@ ghost use Rattle.rb_tree.specs.Numbers.{mimic_at};
 ghost use Rattle.rb_tree.specs.Robot.{HasBody};
 ghost use Rattle.rb_tree.specs.State.{at_place};
 ghost use Rattle.rb_tree.specs.Places.{padded};
-ghost use Rattle.rb_rnea.specs.Rates.{joint_columns, rates_of, motion_of};
+ghost use Rattle.rb_rnea.specs.Rates.{joint_columns, rates_of, motion_of, motion_by};
 
 use rb_num::{Iv, NumFault, dot};
 use rb_spatial::Motion;
@@ -64,6 +64,7 @@ pub(crate) fn rates_at(robot: &Robot, numbers: &[Iv], i: u32) -> Result<[Iv; 6],
 }
 
 // The motion over the joint of a body at these rates.
+#[inline]
 #[tactic(auto, unfolding(crate::specs::Rates::motion_of))]
 pub(crate) fn motion_at(robot: &Robot, i: u32, rates: &[Iv; 6]) -> Result<Motion, NumFault>
     requires there { HasBody robot.now i }
@@ -72,4 +73,36 @@ pub(crate) fn motion_at(robot: &Robot, i: u32, rates: &[Iv; 6]) -> Result<Motion
 {
     let joint = robot.joint(i);
     joint.motion(&rates[..joint.nv()])
+}
+
+// The motion over the joint of a body that follows no other, at the numbers of its own columns.
+#[inline]
+fn own_motion(robot: &Robot, numbers: &[Iv], i: u32) -> Result<Motion, NumFault>
+    requires long { length numbers.now ≡ column_count robot.now.bodies }
+    requires there { HasBody robot.now i }
+    requires leads { mimic_at robot.now.bodies i ≡ None }
+    ensures exact { result ≡ motion_by robot.now.bodies numbers.now i }
+    ensures size { IfErr result (λ e. e ≡ NumFault.Size) }
+{
+    let _columns = robot.nv();
+    let joint = robot.joint(i);
+    let first = robot.first_column(i) as usize - 1;
+    joint.motion(&numbers[first..first + joint.nv()])
+}
+
+// The motion over the joint of a body, at the numbers of the columns.
+#[tactic(auto, unfolding(crate::specs::Rates::motion_by))]
+pub(crate) fn motion_by(robot: &Robot, numbers: &[Iv], i: u32) -> Result<Motion, NumFault>
+    requires long { length numbers.now ≡ column_count robot.now.bodies }
+    requires there { HasBody robot.now i }
+    ensures exact { result ≡ motion_by robot.now.bodies numbers.now i }
+    ensures size { IfErr result (λ e. e ≡ NumFault.Size) }
+{
+    match robot.mimic_of(i) {
+        None => own_motion(robot, numbers, i),
+        Some(_) => {
+            let rates = rates_at(robot, numbers, i)?;
+            motion_at(robot, i, &rates)
+        }
+    }
 }

@@ -4,7 +4,7 @@ ghost use Rattle.rb_tree.specs.declared.sizes.TheConstants.{MAX_COLUMNS};
 ghost use Rattle.rb_sweep.specs.Sweep.{Answers};
 ghost use Rattle.rb_tree.specs.Columns.{column_count};
 ghost use Rattle.rb_tree.specs.State.{Fits};
-ghost use Rattle.rb_tree.specs.Places.{IsFor};
+ghost use Rattle.rb_tree.specs.Places.{IsFor, ArePlaces};
 ghost use Rattle.rb_rnea.specs.Steps.{sweeps_of};
 ghost use Rattle.rb_rnea.specs.Dynamics.{AreDynamics, IsRefused, answer_of, torques_in, unaccelerated, EnclosesDynamics};
 
@@ -16,7 +16,7 @@ use rb_num::Iv;
 use rb_tree::{MAX_COLUMNS, Robot, State, place_all};
 use rb_work::{RowFault, Work};
 
-// The sweeps of a row with these accelerations.
+// The sweeps behind the places, for a row with these accelerations.
 fn sweeps(
     robot: &Robot,
     state: &State,
@@ -27,14 +27,33 @@ fn sweeps(
     requires long { length accelerations.now ≡ column_count robot.now.bodies }
     requires room { IsFor robot.now work.old }
     ensures exact { Answers result (sweeps_of robot.now state.now accelerations.now work.old) work.new }
-    ensures others { work.new ≡ record work.old { q = work.new.q; X = work.new.X; s = work.new.s; v = work.new.v; c = work.new.c; a = work.new.a; b = work.new.b; f = work.new.f; t = work.new.t; T = work.new.T } }
+    ensures others { work.new ≡ record work.old { s = work.new.s; v = work.new.v; c = work.new.c; a = work.new.a; b = work.new.b; f = work.new.f; t = work.new.t; T = work.new.T } }
 {
-    place_all(robot, state, work)?;
     sweep_speeds(robot, state, work)?;
     sweep_accelerations(robot, state, accelerations, work)?;
     sweep_forces(robot, work)?;
     sweep_powers(robot, work)?;
     sweep_torques(robot, work)
+}
+
+// The values of a row with these accelerations, over a work that holds its places.
+fn behind_places(
+    robot: &Robot,
+    state: &State,
+    accelerations: &[Iv],
+    work: &mut Work,
+) -> Result<(), RowFault>
+    requires fits { Fits robot.now state.now }
+    requires long { length accelerations.now ≡ column_count robot.now.bodies }
+    requires room { IsFor robot.now work.old }
+    requires places { ArePlaces robot.now state.now work.old }
+    ensures values { OnOk result (AreDynamics robot.now (record state.now { a = accelerations.now }) work.new) }
+    ensures refused { IfErr result (IsRefused robot.now (record state.now { a = accelerations.now })) }
+    ensures others { work.new ≡ record work.old { s = work.new.s; v = work.new.v; c = work.new.c; a = work.new.a; b = work.new.b; f = work.new.f; t = work.new.t; T = work.new.T } }
+{
+    let _tree = robot.bodies();
+    let _sizes = work.bodies();
+    sweeps(robot, state, accelerations, work)
 }
 
 // The values of a row with these accelerations.
@@ -54,8 +73,8 @@ fn dynamics(
     ensures others { work.new ≡ record work.old { q = work.new.q; X = work.new.X; s = work.new.s; v = work.new.v; c = work.new.c; a = work.new.a; b = work.new.b; f = work.new.f; t = work.new.t; T = work.new.T } }
 {
     let _tree = robot.bodies();
-    let _sizes = work.bodies();
-    sweeps(robot, state, accelerations, work)
+    place_all(robot, state, work)?;
+    behind_places(robot, state, accelerations, work)
 }
 
 /// The torques that a row's accelerations take at its position and speeds, under its gravity: the values `q X s v c a b f t T` of the work, in newtons or

@@ -1,11 +1,13 @@
 //! The speeds of the joints and the velocities of the bodies, from the root on.
 
-ghost use Rattle.std.specs.Prelude.{◌≡◌, ◌+◌, length, IfErr};
+ghost use Rattle.std.specs.Prelude.{◌≡◌, ◌+◌, length, Ok, IfErr};
 ghost use Rattle.rb_sweep.specs.Sweep.{Answers};
+ghost use Rattle.rb_work.specs.View.{s_at};
 ghost use Rattle.rb_work.specs.Zeros.{zero_motion};
 ghost use Rattle.rb_tree.specs.Robot.{HasBody};
 ghost use Rattle.rb_tree.specs.State.{Fits};
-ghost use Rattle.rb_rnea.specs.Speeds.{checked_rates, velocity_by};
+ghost use Rattle.rb_rnea.specs.Rates.{motion_of};
+ghost use Rattle.rb_rnea.specs.Speeds.{velocity_by};
 ghost use Rattle.rb_rnea.specs.Steps.{speed_step, speeds_of};
 
 use crate::rates::{motion_at, rates_at};
@@ -26,34 +28,21 @@ fn still() -> Motion
     }
 }
 
-// The speeds of a joint, with which its motion is within the limit.
-#[tactic(auto, unfolding(crate::specs::Speeds::checked_rates))]
-fn speeds_at(robot: &Robot, state: &State, i: u32) -> Result<[Iv; 6], NumFault>
-    requires fits { Fits robot.now state.now }
-    requires there { HasBody robot.now i }
-    ensures exact { result ≡ checked_rates robot.now.bodies state.now.v i }
-    ensures size { IfErr result (λ e. e ≡ NumFault.Size) }
-{
-    let rates = rates_at(robot, state.speeds(), i)?;
-    motion_at(robot, i, &rates)?;
-    Ok(rates)
-}
-
-// The velocity of a body, from its parent's.
+// The velocity of a body, from its parent's and the motion over its joint.
 #[tactic(auto, unfolding(crate::specs::Speeds::velocity_by))]
-fn velocity_at(robot: &Robot, i: u32, work: &Work) -> Result<Motion, NumFault>
+fn velocity_at(robot: &Robot, i: u32, own: &Motion, work: &Work) -> Result<Motion, NumFault>
     requires room { work.now.bodies ≡ length robot.now.bodies }
     requires there { HasBody robot.now i }
+    requires own { motion_of robot.now.bodies i (s_at work.now i) ≡ Ok own.now }
     ensures exact { result ≡ velocity_by robot.now.bodies i work.now }
     ensures size { IfErr result (λ e. e ≡ NumFault.Size) }
 {
     let carried = apply(work.X(i), work.v(robot.parent(i)))?;
-    let own = motion_at(robot, i, work.s(i))?;
-    sum_motions(&carried, &own)
+    sum_motions(&carried, own)
 }
 
-// The names of one body.
-#[tactic(auto, unfolding(crate::specs::Speeds::s_rule, crate::specs::Speeds::v_rule, crate::specs::Steps::speed_step))]
+// The names of one body. The speeds of a joint are refused where its motion is.
+#[tactic(auto, unfolding(crate::specs::Speeds::checked_rates, crate::specs::Speeds::s_rule, crate::specs::Speeds::v_rule, crate::specs::Steps::speed_step))]
 fn body_speeds(robot: &Robot, state: &State, i: u32, work: &mut Work) -> Result<(), RowFault>
     requires fits { Fits robot.now state.now }
     requires room { work.old.bodies ≡ length robot.now.bodies }
@@ -61,9 +50,14 @@ fn body_speeds(robot: &Robot, state: &State, i: u32, work: &mut Work) -> Result<
     ensures step { Answers result (speed_step robot.now state.now i work.old) work.new }
     ensures others { work.new ≡ record work.old { s = work.new.s; v = work.new.v } }
 {
-    let s = named(speeds_at(robot, state, i), Name::one(NameKind::s, i))?;
+    let _sizes = work.bodies();
+    let s = named(
+        rates_at(robot, state.speeds(), i),
+        Name::one(NameKind::s, i),
+    )?;
+    let own = named(motion_at(robot, i, &s), Name::one(NameKind::s, i))?;
     work.set_s(i, s);
-    let v = named(velocity_at(robot, i, work), Name::one(NameKind::v, i))?;
+    let v = named(velocity_at(robot, i, &own, work), Name::one(NameKind::v, i))?;
     work.set_v(i, v);
     Ok(())
 }

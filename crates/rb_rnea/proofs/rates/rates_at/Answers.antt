@@ -1,4 +1,4 @@
-use Rattle.std.proofs.Common.{◌≡◌, ◌-◌, arith}
+use Rattle.std.proofs.Common.{◌-◌, arith}
 use Rattle.rb_tree.specs.Columns.{leader_at}
 use Rattle.rb_tree.proofs.Entries.{columns_followed, column_from}
 use Rattle.rb_rnea.proofs.rates.rates_at.Goals as goal

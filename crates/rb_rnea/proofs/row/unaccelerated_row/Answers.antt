@@ -1,4 +1,4 @@
-use Rattle.std.proofs.Common.{List, OnOk, IfErr, subst, length, replicate, arith}
+use Rattle.std.proofs.Common.{List, OnOk, IfErr, subst, length, arith}
 use Rattle.std.proofs.lemmas.List.{length-replicate}
 use Rattle.rb_num.specs.Interval.{Interval, zero_interval}
 use Rattle.rb_sweep.specs.Sweep.{Answers}
