@@ -1,5 +1,5 @@
 -- Rows, one at a time.
-use Rattle.std.proofs.Common.{◌≡◌, ◌≤◌, ◌<◌, ◌++◌, ◌+◌, ◌||◌, List, [], ℕ, suc, Bool, true, false, not, cond, ltb, ◌∷◌, length, map, take_while, Option, Some, None, Result, Ok, Err, refl, sym, ap, ◌∙◌, arith, append-nil, zero-add}
+use Rattle.std.proofs.Common.{◌≡◌, ◌≤◌, ◌<◌, ◌++◌, ◌+◌, ◌||◌, List, [], ℕ, suc, Bool, true, false, cond, ◌∷◌, length, map, take_while, Some, None, Result, Ok, Err, refl, sym, ap, ◌∙◌, arith, zero-add}
 use Rattle.std.proofs.lemmas.Bool.Decides.{nat_tests}
 use Rattle.std.specs.List.{concat, list_any, prefix_len}
 use Rattle.rb_tree.specs.Columns.{column_count}
@@ -12,7 +12,7 @@ use Rattle.rbd.specs.Answer.{Answer, answer_to, answers_to, is_refused, line_of,
 use Rattle.rbd.specs.Course.{ending, answers_of, course_behind}
 use Rattle.rbd.specs.Cut.{Line}
 use Rattle.rbd.specs.Fields.{row_of}
-use Rattle.rbd.specs.Inputs.{Rows, rows, most_line, is_long, is_short, inputs_of, long_line}
+use Rattle.rbd.specs.Inputs.{rows, is_long, is_short, inputs_of, long_line}
 
 -- ---- step by step
 -- the answer of a line

@@ -1,5 +1,5 @@
 -- The steps of a run, up to where one of them ends it.
-use Rattle.std.proofs.Common.{◌≡◌, ◌≢◌, ◌<◌, ◌≤◌, ℕ, Bool, true, false, cond, ltb, IsTrue, List, length, codes, Result, Ok, Err, refl, sym, ap, ◌∙◌, ◌⊎◌, inl, inr, arith, subst}
+use Rattle.std.proofs.Common.{◌≡◌, ◌≢◌, ◌<◌, ◌≤◌, ℕ, Bool, true, false, ltb, IsTrue, List, length, codes, Result, Ok, Err, refl, sym, ap, ◌∙◌, ◌⊎◌, inl, inr, arith, subst}
 use Rattle.std.proofs.lemmas.Bool.Decides.{nat_tests}
 use Rattle.rb_io.specs.Outside.{Rose}
 use Rattle.rb_result.specs.Steps.{told_as}
@@ -21,9 +21,9 @@ use Rattle.rbd.specs.Words.{Command, command_of}
 use Rattle.rbd.specs.Plan.{Plan, IsPlan, IsRobotOf, IsRefused, most_file}
 use Rattle.rbd.specs.Inputs.{most_rows, rows_of, rows_of_lines}
 use Rattle.rbd.specs.Cut.{lines_of}
-use Rattle.rbd.specs.Course.{Course, IsCourse, stopped, course_of, course_of_rows}
+use Rattle.rbd.specs.Course.{IsCourse, stopped, course_of, course_of_rows}
 use Rattle.rbd.specs.Ends.{status_of}
-use Rattle.rbd.specs.Run.{Source, Stream, is_plain, Counts, Follows, EndsEarly, HasCourse, Goes, IsOfCourse, IsComplete}
+use Rattle.rbd.specs.Run.{Source, Stream, is_plain, Follows, EndsEarly, HasCourse, Goes, IsOfCourse, IsComplete}
 use Rattle.rbd.specs.Stops.{IfFault, stop_of_read, stop_of_rows}
 use Rattle.rbd.proofs.Courses.{follows_stop, follows_refused}
 

@@ -13,7 +13,7 @@ use Rattle.rb_body.specs.declared.raw.JointRaw.{JointRaw}
 use Rattle.rb_body.specs.Raw.{kind_of}
 use Rattle.rb_tree.specs.Columns.{body_at}
 use Rattle.rb_tree.specs.Names.{names_by, entry_names, column_names}
-use Rattle.rbd.specs.Columns.{next_column, behind, of_body, unless_mimic, entries_of, columns_of, header_text, header_of, all_of, accelerations_of, state_columns, columns_behind}
+use Rattle.rbd.specs.Columns.{next_column, behind, of_body, entries_of, columns_of, header_text, header_of, all_of, accelerations_of, state_columns, columns_behind}
 use Rattle.rbd.specs.Fields.{IsWithin}
 use Rattle.rbd.specs.declared.header.Header.{Header}
 use Rattle.rb_tree.specs.Robot.{Tree}

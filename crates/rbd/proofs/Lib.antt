@@ -6,7 +6,7 @@ pub mod Numbers
 pub mod Torques
 pub mod EachRow
 pub mod Refusals
+pub mod Utf8
 pub mod Courses
 pub mod Going
 pub mod Meaning
-pub mod Short

@@ -1,37 +1,32 @@
 -- What the lines of a run mean.
-use Rattle.std.proofs.Common.{◌≡◌, ◌<◌, ◌+◌, ◌-◌, ℕ, zero, suc, List, [], ◌∷◌, ◌++◌, Bool, true, false, cond, not, ◌||◌, IsTrue, length, map, take_while, codes, Option, Some, None, Result, Ok, Err, refl, sym, ap, ◌∙◌, ◌⊎◌, inl, inr, arith, subst}
+use Rattle.std.proofs.Common.{◌≡◌, ◌<◌, ◌+◌, ◌-◌, ℕ, zero, suc, List, [], ◌∷◌, Bool, true, false, cond, ◌||◌, IsTrue, length, map, take_while, codes, Option, Some, None, Result, Ok, Err, refl, sym, ap, ◌∙◌, ◌⊎◌, inl, inr, arith, subst}
 use Rattle.std.specs.Prelude.{slice_get}
 use Rattle.std.specs.Option.{option_map}
-use Rattle.std.specs.List.{concat, list_any, prefix_len}
+use Rattle.std.specs.List.{list_any, prefix_len}
 use Rattle.std.proofs.lemmas.Option.{slice_get-map}
 use Rattle.std.proofs.lemmas.List.{length-map}
 use Rattle.rb_num.specs.Interval.{Interval}
 use Rattle.rb_num.specs.Fraction.{LiesIn}
 use Rattle.rb_tree.specs.Columns.{column_count}
-use Rattle.rb_tree.specs.Robot.{Tree, HasColumn, AreBodies}
-use Rattle.rb_tree.specs.State.{Row, state_brackets}
-use Rattle.rb_flat.specs.Choice.{Choice, IsChoice}
-use Rattle.rb_tree.specs.Shape.{brackets_of}
+use Rattle.rb_tree.specs.Robot.{Tree, AreBodies}
+use Rattle.rb_tree.specs.State.{Row}
 use Rattle.rb_sweep.specs.Sweep.{upward, counting_up}
 use Rattle.rb_work.specs.View.{View, T_at}
 use Rattle.rb_work.specs.declared.names.RowFault.{RowFault}
-use Rattle.rb_rnea.specs.Dynamics.{AreDynamics, AnswerMeans, EnclosesDynamics, answer_of, torques_in}
+use Rattle.rb_rnea.specs.Dynamics.{AnswerMeans, EnclosesDynamics, answer_of, torques_in}
 use Rattle.rb_rnea.proofs.DynamicsEnclose.{dynamics_enclose}
-use Rattle.rbd.specs.declared.field.FieldFault.{FieldFault}
-use Rattle.rbd.specs.declared.cause.Cause.TheVariants.{Field, Refused}
 use Rattle.rbd.specs.declared.stop.RowsFault.{RowsFault}
 use Rattle.rbd.specs.declared.stop.RowsFault.TheVariants.{LineTooLong}
 use Rattle.rbd.specs.declared.stop.Stop.{Stop}
 use Rattle.rbd.specs.declared.stop.Stop.TheVariants.{Usage, Robot, Rows as AtRows, Input as AtInput, Output, Memory}
 use Rattle.rbd.specs.declared.status.Status.{Status}
 use Rattle.rbd.specs.declared.status.Status.TheVariants as status
-use Rattle.rbd.specs.Answer.{Answer, answer_to, answers_to, is_refused, line_of, lines_from}
-use Rattle.rbd.specs.Columns.{first_line}
-use Rattle.rbd.specs.Course.{Course, IsCourse, stopped, ending, answers_of, course_of, course_of_rows}
+use Rattle.rbd.specs.Answer.{Answer, answer_to, is_refused, line_of, lines_from}
+use Rattle.rbd.specs.Course.{Course, IsCourse, ending, answers_of, course_of_rows}
 use Rattle.rbd.specs.Cut.{Line}
 use Rattle.rbd.specs.Ends.{status_of, status_of_stop}
 use Rattle.rbd.specs.Fields.{row_of}
-use Rattle.rbd.specs.Headline.{IsTold, HasOneWithin, Encloses, IsAnswered, IsRefusal, Means, IsProved, Headline}
+use Rattle.rbd.specs.Headline.{Encloses, IsAnswered, IsRefusal, Means, IsProved, Headline}
 use Rattle.rbd.specs.Inputs.{Input, Rows, rows_of, inputs_of, long_line, is_long, is_short}
 use Rattle.rbd.specs.Plan.{Plan, IsPlan}
 use Rattle.rbd.specs.Run.{Source, Stream, Follows, EndsEarly, HasCourse, Goes}

@@ -1,10 +1,9 @@
 -- The numbers of a state in the order of its columns.
-use Rattle.std.proofs.Common.{◌≡◌, ◌<◌, ◌≤◌, ◌+◌, ◌-◌, ℕ, List, [], ◌∷◌, ◌++◌, length, drop, take, set, get_or, replicate, refl, arith, ◌∙◌, ap, sym, append_assoc, length-append}
+use Rattle.std.proofs.Common.{◌≡◌, ◌<◌, ◌≤◌, ◌+◌, ◌-◌, ℕ, List, ◌++◌, length, drop, take, set, refl, arith, ◌∙◌, ap, sym, append_assoc, length-append}
 use Rattle.std.proofs.Math.Seq.{take-append_seam, drop-append_seam}
 use Rattle.std.proofs.lemmas.List.{take_all}
-use Rattle.std.proofs.lemmas.List.{set-append_left, set-append_right, get_or_append_left, get_or-append-add, length-set}
+use Rattle.std.proofs.lemmas.List.{set-append_left, set-append_right, get_or_append_left, get_or-append-add}
 use Rattle.rb_num.specs.Interval.{Interval, zero_interval}
-use Rattle.rb_frac.specs.Ops.{V3}
 use Rattle.rb_tree.specs.Columns.{entry_count, column_count}
 use Rattle.rb_tree.specs.Robot.{Tree}
 use Rattle.rb_tree.specs.State.{Row, Fits, at_place, standard_gravity, neutral_under}

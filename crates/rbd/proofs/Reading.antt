@@ -1,5 +1,5 @@
 -- Reading the fields of a row, one at a time.
-use Rattle.std.proofs.Common.{◌≡◌, ◌<◌, ◌≤◌, ◌+◌, ◌-◌, ℕ, zero, suc, List, [], ◌∷◌, ◌++◌, length, drop, take, set, get_or, count_by, refl, arith, ◌∙◌, ap, sym, append_assoc, append-nil, Result, Ok, Err, length-drop, inl, inr, subst}
+use Rattle.std.proofs.Common.{◌≡◌, ◌<◌, ◌≤◌, ◌+◌, ◌-◌, ℕ, suc, List, [], ◌∷◌, ◌++◌, length, drop, take, set, get_or, count_by, refl, arith, ◌∙◌, ap, sym, append_assoc, Result, Ok, Err, length-drop, inl, inr, subst}
 use Rattle.std.specs.List.{splice}
 use Rattle.std.proofs.lemmas.List.{drop_more, drop_all, take_more_set, drop-set-lt, take-append-drop, length-set}
 use Rattle.std.proofs.lemmas.Bool.{cases_lt}

@@ -1,5 +1,5 @@
 -- The torques of the columns, one after the other.
-use Rattle.std.proofs.Common.{◌≡◌, ◌≤◌, ◌<◌, ◌+◌, ◌-◌, ◌*◌, ℕ, zero, suc, List, [], ◌∷◌, ◌++◌, length, map, flat_map, refl, ◌∙◌, ap, sym, arith, append-nil, append_assoc, length-append}
+use Rattle.std.proofs.Common.{◌≡◌, ◌≤◌, ◌+◌, ◌-◌, ◌*◌, ℕ, zero, suc, List, [], ◌∷◌, ◌++◌, length, map, flat_map, refl, ◌∙◌, ap, sym, arith, append-nil, append_assoc, length-append}
 use Rattle.std.proofs.lemmas.List.{flat_map_more, map-append}
 use Rattle.rb_num.specs.Interval.{Interval}
 use Rattle.rbd.specs.Answer.{value_text}

@@ -1,5 +1,5 @@
 -- What a run answers and puts, from its plan and the bytes of the rows.
-use Rattle.std.specs.Prelude.{◌≡◌, ℕ, List, [], ◌++◌, Bool, Option, Some, None, codes, Result, Ok, Err}
+use Rattle.std.specs.Prelude.{ℕ, List, [], ◌++◌, Bool, Option, Some, None, codes, Result, Ok, Err}
 use Rattle.std.specs.List.{list_any, concat}
 use Rattle.rb_tree.specs.Columns.{column_count}
 use Rattle.rb_tree.specs.Robot.{Tree}

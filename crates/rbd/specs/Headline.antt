@@ -1,5 +1,5 @@
 -- What the lines of a run mean.
-use Rattle.std.specs.Prelude.{◌≡◌, ◌⊎◌, ◌+◌, ℕ, List, ◌++◌, IsTrue, length, slice_get, Some, Result, Ok, Err, codes}
+use Rattle.std.specs.Prelude.{◌≡◌, ◌⊎◌, ◌+◌, ℕ, List, ◌++◌, IsTrue, length, slice_get, Some, Ok, Err, codes}
 use Rattle.std.specs.List.{concat, list_any}
 use Rattle.rb_num.specs.Interval.{Interval}
 use Rattle.rb_tree.specs.Columns.{column_count}

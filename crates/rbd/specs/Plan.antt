@@ -1,5 +1,5 @@
 -- What a run goes by, from its words and from what the names hold; or the first thing for which it has none.
-use Rattle.std.specs.Prelude.{◌≡◌, ◌≤◌, ℕ, ◌==◌, List, Bool, ◌&&◌, ◌||◌, not, nat_lt, nat_le, min, if◌then◌else◌, length, find, Option, Some, None, Result, Ok, Err}
+use Rattle.std.specs.Prelude.{◌≡◌, ℕ, ◌==◌, List, Bool, ◌&&◌, ◌||◌, not, nat_lt, nat_le, min, if◌then◌else◌, length, find, Option, Some, None, Result, Ok, Err}
 use Rattle.std.specs.Option.{option_map}
 use Rattle.std.specs.List.{list_all}
 use Rattle.rb_result.specs.Steps.{◌>>=◌, told_as}

@@ -1,7 +1,17 @@
 -- The stops of the parts of a run, as stops of the run.
-use Rattle.std.specs.Prelude.{ℕ}
+use Rattle.rb_tags.specs.declared.read.TagFault.{TagFault}
+use Rattle.rb_tags.specs.declared.read.TagKind.{TagKind}
+use Rattle.rb_tags.specs.declared.read.TagKind.TheVariants as tags
+use Rattle.rb_urdf.specs.declared.faults.UrdfFault.{UrdfFault}
+use Rattle.rb_urdf.specs.declared.faults.UrdfFaultKind.{UrdfFaultKind}
+use Rattle.rb_urdf.specs.declared.faults.UrdfFaultKind.TheVariants as urdf
+use Rattle.rb_tree.specs.declared.faults.TreeFault.{TreeFault}
+use Rattle.rb_tree.specs.declared.faults.TreeKind.{TreeKind}
+use Rattle.rb_tree.specs.declared.faults.TreeKind.TheVariants as tree
 use Rattle.rb_io.specs.declared.calls.FileFault.{FileFault}
 use Rattle.rb_io.specs.declared.calls.FileFault.TheVariants as file
+use Rattle.rbd.specs.declared.stop.RobotFault.{RobotFault}
+use Rattle.rbd.specs.declared.stop.RobotFault.TheVariants as robot
 use Rattle.rbd.specs.declared.stop.Refusal.{Refusal}
 use Rattle.rbd.specs.declared.stop.Refusal.TheVariants as refusal
 use Rattle.rbd.specs.declared.stop.ReadStop.{ReadStop}
@@ -21,6 +31,34 @@ IfFault P (read.Fault fault) = P fault
 IfFault P read.Input = Unit {0}
 IfFault P read.Memory = Unit {0}
 
+-- ---- the parts of reading a robot
+-- want of memory where the kind of a fault says so, and what is wrong with the robot's file where it is another
+abbrev pub tags_kind : TagKind → RobotFault → Refusal RobotFault
+tags_kind tags.Memory fault = refusal.Memory
+tags_kind kind fault = refusal.Fault fault
+
+abbrev pub refusal_of_tags : TagFault → Refusal RobotFault
+refusal_of_tags fault = tags_kind fault.kind (robot.Tags fault)
+
+abbrev pub urdf_kind : UrdfFaultKind → RobotFault → Refusal RobotFault
+urdf_kind urdf.Memory fault = refusal.Memory
+urdf_kind kind fault = refusal.Fault fault
+
+abbrev pub refusal_of_urdf : UrdfFault → Refusal RobotFault
+refusal_of_urdf fault = urdf_kind fault.kind (robot.Urdf fault)
+
+abbrev pub tree_kind : TreeKind → RobotFault → Refusal RobotFault
+tree_kind tree.Memory fault = refusal.Memory
+tree_kind kind fault = refusal.Fault fault
+
+abbrev pub refusal_of_tree : TreeFault → Refusal RobotFault
+refusal_of_tree fault = tree_kind fault.kind (robot.Tree fault)
+
+abbrev pub stop_of_refusal : {F : Type 0} → Refusal F → ReadStop F
+stop_of_refusal (refusal.Fault fault) = read.Fault fault
+stop_of_refusal refusal.Memory = read.Memory
+
+-- ---- the stops of a run
 -- the stop for a fault of reading a name whole, where `long` is that of a name that holds too much
 abbrev pub file_stop : {F : Type 0} → FileFault → F → ReadStop F
 file_stop file.TooLong long = read.Fault long

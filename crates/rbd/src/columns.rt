@@ -98,29 +98,52 @@ fn is_header(line: &[u8], columns: &[u8]) -> bool
     }
 }
 
-/// Whether a line names the accelerations.
-fn is_accelerations(alloc: Global, robot: &Robot, line: &[u8]) -> Result<bool, AllocError>
-    ensures { IfOk result (λ is. is ≡ bytes_eq line.now (header_text (columns_behind (codes "a.") robot.now))) }
+/// The names of the accelerations, each behind its comma.
+fn acceleration_names(alloc: Global, robot: &Robot) -> Result<Vec<u8>, AllocError>
+    ensures { IfOk result (λ names. names.items ≡ flat_map next_column (columns_behind (codes "a.") robot.now)) }
 {
-    let mut columns = Vec::new(alloc);
-    put_columns(&mut columns, b"a.", robot)?;
-    Ok(is_header(line, columns.as_slice()))
+    let mut names = Vec::new(alloc);
+    put_columns(&mut names, b"a.", robot)?;
+    Ok(names)
 }
 
-/// Whether a line names all columns of a state.
-fn is_all(alloc: Global, robot: &Robot, line: &[u8]) -> Result<bool, AllocError>
-    ensures { IfOk result (λ is. is ≡ bytes_eq line.now (header_text (state_columns robot.now))) }
+/// The names of all columns of a state, each behind its comma.
+fn state_names(alloc: Global, robot: &Robot) -> Result<Vec<u8>, AllocError>
+    ensures { IfOk result (λ names. names.items ≡ flat_map next_column (state_columns robot.now)) }
 {
-    let mut columns = Vec::new(alloc);
-    put_entries(&mut columns, robot)?;
-    put_columns(&mut columns, b"v.", robot)?;
-    put_columns(&mut columns, b"a.", robot)?;
-    put_columns(&mut columns, b"tau.", robot)?;
-    Ok(is_header(line, columns.as_slice()))
+    let mut names = Vec::new(alloc);
+    put_entries(&mut names, robot)?;
+    put_columns(&mut names, b"v.", robot)?;
+    put_columns(&mut names, b"a.", robot)?;
+    put_columns(&mut names, b"tau.", robot)?;
+    Ok(names)
+}
+
+/// The header that a line is, if it is one, where these are the names of the accelerations and those of a state.
+#[tactic(auto, unfolding(crate::specs::Columns::header_of))]
+fn header_among(robot: &Robot, accelerations: &[u8], state: &[u8], line: &[u8]) -> Option<Header>
+    requires accelerations { accelerations.now ≡ flat_map next_column (columns_behind (codes "a.") robot.now) }
+    requires state { state.now ≡ flat_map next_column (state_columns robot.now) }
+    ensures { result ≡ header_of robot.now line.now }
+{
+    let entries = robot.nq() as usize;
+    let columns = robot.nv() as usize;
+    if is_header(line, accelerations) {
+        return Some(Header {
+            first: entries + columns,
+            count: columns,
+        });
+    }
+    if is_header(line, state) {
+        return Some(Header {
+            first: 0,
+            count: entries + columns + columns + columns,
+        });
+    }
+    None
 }
 
 /// The header that a line is, if it is one. The one refusal is for want of memory.
-#[tactic(auto, unfolding(crate::specs::Columns::header_of))]
 pub(crate) fn header_of(
     alloc: Global,
     robot: &Robot,
@@ -128,19 +151,7 @@ pub(crate) fn header_of(
 ) -> Result<Option<Header>, AllocError>
     ensures { IfOk result (λ header. header ≡ header_of robot.now line.now) }
 {
-    let entries = robot.nq() as usize;
-    let columns = robot.nv() as usize;
-    if is_accelerations(alloc, robot, line)? {
-        return Ok(Some(Header {
-            first: entries + columns,
-            count: columns,
-        }));
-    }
-    if is_all(alloc, robot, line)? {
-        return Ok(Some(Header {
-            first: 0,
-            count: entries + columns + columns + columns,
-        }));
-    }
-    Ok(None)
+    let accelerations = acceleration_names(alloc, robot)?;
+    let state = state_names(alloc, robot)?;
+    Ok(header_among(robot, accelerations.as_slice(), state.as_slice(), line))
 }

@@ -1,13 +1,13 @@
 //! The status and the line on standard error of an answer.
 ghost use Rattle.std.specs.Prelude.{◌≡◌, ◌≤◌, ◌+◌, ◌++◌, ◌∷◌, [], length, codes, decimal, Result, Ok, Err};
-ghost use Rattle.rb_tree.specs.Faults.{kind_word as tree_word_of, fault_text as tree_text};
+ghost use Rattle.rb_tree.specs.Faults.{fault_text as tree_text};
 ghost use Rattle.rbd.specs.Ends.{status_of, usage_text, in_urdf, robot_text, rows_text, stop_text, text_of};
 
 use crate::line::put_number;
 use crate::status::Status;
 use crate::stop::{RobotFault, RowsFault, Stop, UsageFault};
 use rb_text::Out;
-use rb_tree::{TreeFault, TreeKind};
+use rb_tree::TreeFault;
 
 /// The status of an answer.
 pub(crate) fn status(answer: &Result<bool, Stop>) -> Status
@@ -43,13 +43,6 @@ fn usage_word(fault: UsageFault) -> &'static [u8]
     }
 }
 
-fn tree_word(kind: TreeKind) -> &'static [u8]
-    ensures word { result.now ≡ tree_word_of kind }
-    ensures short { length result.now ≤ 14 }
-{
-    kind.word().as_bytes()
-}
-
 // Puts a word and a place of the robot's file.
 #[tactic(auto, using(std::proofs::Common::append_assoc), unfolding(crate::specs::Ends::in_urdf))]
 fn put_placed(word: &[u8], place: u64, line: &mut Out)
@@ -73,7 +66,7 @@ fn put_tree_fault(fault: TreeFault, line: &mut Out)
 {
     line.put(fault.file.word().as_bytes());
     line.put(b": ");
-    line.put(tree_word(fault.kind));
+    line.put(fault.kind.word().as_bytes());
     line.put(b" at ");
     put_number(fault.at, line);
 }

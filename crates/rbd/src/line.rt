@@ -3,7 +3,7 @@ ghost use Rattle.std.specs.Prelude.{◌≡◌, ◌≤◌, ◌+◌, ◌*◌, ◌�
 ghost use Rattle.rb_num.specs.Interval.{Interval};
 ghost use Rattle.rb_tree.specs.Columns.{column_count};
 ghost use Rattle.rb_tree.specs.Places.{IsFor};
-ghost use Rattle.rb_work.specs.Names.{word_of, second_of, text_of};
+ghost use Rattle.rb_work.specs.Names.{second_of, text_of};
 ghost use Rattle.rb_rnea.specs.Dynamics.{torques_in};
 ghost use Rattle.rbd.specs.Answer.{kind_text, index_text, fault_text, refusal_text, cause_text, value_text, line_of, line_room};
 
@@ -13,7 +13,7 @@ use itoa::Buffer;
 use rb_num::Iv;
 use rb_text::Out;
 use rb_tree::Robot;
-use rb_work::{Name, NameKind, RowFault, Work};
+use rb_work::{Name, RowFault, Work};
 
 /// Puts a number in digits.
 pub fn put_number(number: u64, out: &mut Out)
@@ -39,13 +39,6 @@ fn put_index(number: u32, out: &mut Out)
     out.put(b"]");
 }
 
-fn name_word(kind: NameKind) -> &'static [u8]
-    ensures word { result.now ≡ word_of kind }
-    ensures short { length result.now ≤ 3 }
-{
-    kind.word().as_bytes()
-}
-
 // Puts the second number of a name behind a point, where there is one.
 fn put_second(j: u32, out: &mut Out)
     requires { 21 ≤ out.old.spare }
@@ -67,7 +60,7 @@ fn put_name(name: Name, out: &mut Out)
     ensures spare { out.new.spare + length (text_of name) ≡ out.old.spare }
     ensures short { length (text_of name) ≤ 46 }
 {
-    out.put(name_word(name.kind));
+    out.put(name.kind.word().as_bytes());
     out.put(b"[");
     put_number(u64::from(name.i), out);
     put_second(name.j, out);
@@ -212,6 +205,7 @@ pub(crate) fn put_refused(robot: &Robot, number: u64, cause: Cause, out: &mut Ou
 #[cfg(test)]
 mod tests {
     use super::*;
+    use rb_work::NameKind;
     use std::test::Fail;
 
     #[test]

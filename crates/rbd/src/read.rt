@@ -1,5 +1,6 @@
 //! Reading the robot's file and the rows whole.
-ghost use Rattle.std.specs.Prelude.{◌≡◌, ◌≤◌, ◌<◌, IsTrue, IsErrOf, length, codes, find, option_map, Option, Some, None, IfOk, IfErr, Result, Ok, Err};
+ghost use Rattle.std.specs.Prelude.{◌≡◌, ◌≤◌, ◌<◌, IsTrue, IsErrOf, OnOk, length, codes, find, option_map, Option, Some, None, IfOk, IfErr, Result, Ok, Err};
+ghost use Rattle.std.specs.Str.{IsUtf8};
 ghost use Rattle.rb_io.specs.Outside.{Rose};
 ghost use Rattle.rbd.specs.Plan.{is_plain, odd_link, odd_joint, earlier, odd_name, urdf_in, IsRobotOf, IsRefused, most_file};
 ghost use Rattle.rbd.specs.Inputs.{most_rows};
@@ -7,9 +8,9 @@ ghost use Rattle.rbd.specs.Stops.{IfFault, IfRefused, file_stop};
 
 use crate::stop::{ReadStop, Refusal, RobotFault, RowsFault};
 use rb_io::{Bytes, FileFault, Inputs, read_all};
-use rb_tags::{RootKind, TagKind, read_tags};
-use rb_tree::{Robot, TreeKind};
-use rb_urdf::{UrdfFaultKind, UrdfJoint, UrdfLink, UrdfRobot, read_urdf};
+use rb_tags::{RootKind, read_tags};
+use rb_tree::Robot;
+use rb_urdf::{UrdfJoint, UrdfLink, UrdfRobot, read_urdf};
 use std::alloc::Global;
 
 /// The most bytes of a robot's file.
@@ -85,16 +86,20 @@ fn urdf_of_bytes(alloc: Global, bytes: &[u8]) -> Result<UrdfRobot, Refusal<Robot
     requires { length bytes.now ≤ most_file }
     ensures ok { IfOk result (λ urdf. urdf_in bytes.now ≡ Ok urdf) }
     ensures err { IfErr result (IfRefused (λ fault. urdf_in bytes.now ≡ Err fault)) }
+    ensures memory { IsErrOf result Refusal.Memory → IsUtf8 bytes.now }
 {
-    let tags = match read_tags(alloc, bytes) {
-        Ok(tags) => tags,
-        Err(fault) if fault.kind == TagKind::Memory => return Err(Refusal::Memory),
-        Err(fault) => return Err(Refusal::Fault(RobotFault::Tags(fault))),
-    };
-    match read_urdf(alloc, &tags) {
-        Ok(urdf) => Ok(urdf),
-        Err(fault) if fault.kind == UrdfFaultKind::Memory => Err(Refusal::Memory),
-        Err(fault) => Err(Refusal::Fault(RobotFault::Urdf(fault))),
+    let tags = read_tags(alloc, bytes)?;
+    Ok(read_urdf(alloc, &tags)?)
+}
+
+/// That the names of all links and joints are plain; else the place of the first that is not.
+fn all_plain(urdf: &UrdfRobot) -> Result<(), RobotFault>
+    ensures ok { OnOk result (odd_name urdf.now ≡ None) }
+    ensures err { IfErr result (λ fault. option_map RobotFault.Name (odd_name urdf.now) ≡ Some fault) }
+{
+    match odd_name(urdf) {
+        None => Ok(()),
+        Some(place) => Err(RobotFault::Name(place)),
     }
 }
 
@@ -107,21 +112,13 @@ fn robot_of_bytes(
     requires { length bytes.now ≤ most_file }
     ensures ok { IfOk result (IsRobotOf root bytes.now) }
     ensures err { IfErr result (IfRefused (IsRefused root bytes.now)) }
+    ensures memory { IsErrOf result Refusal.Memory → IsUtf8 bytes.now }
 {
-    let urdf = match urdf_of_bytes(alloc, bytes) {
-        Ok(urdf) => urdf,
-        Err(refusal) => return Err(refusal),
-    };
-    let robot = match Robot::build(alloc, &urdf, root) {
-        Ok(robot) => robot,
-        Err(fault) if fault.kind == TreeKind::Memory => return Err(Refusal::Memory),
-        Err(fault) => return Err(Refusal::Fault(RobotFault::Tree(fault))),
-    };
+    let urdf = urdf_of_bytes(alloc, bytes)?;
+    let robot = Robot::build(alloc, &urdf, root)?;
     let _bodies = robot.bodies();
-    match odd_name(&urdf) {
-        None => Ok(robot),
-        Some(place) => Err(Refusal::Fault(RobotFault::Name(place))),
-    }
+    all_plain(&urdf)?;
+    Ok(robot)
 }
 
 /// Reads the robot of a file.
@@ -143,11 +140,7 @@ pub(crate) fn read_robot<I: Inputs>(
         Ok(bytes) => bytes,
         Err(fault) => return Err(file_stop(fault, RobotFault::TooLong)),
     };
-    match robot_of_bytes(alloc, bytes.as_slice(), root) {
-        Ok(robot) => Ok(robot),
-        Err(Refusal::Fault(fault)) => Err(ReadStop::Fault(fault)),
-        Err(Refusal::Memory) => Err(ReadStop::Memory),
-    }
+    Ok(robot_of_bytes(alloc, bytes.as_slice(), root)?)
 }
 
 /// Reads the rows.

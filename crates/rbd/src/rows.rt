@@ -1,27 +1,28 @@
 //! Answering the rows of an input, line by line.
-ghost use Rattle.std.specs.Prelude.{◌≡◌, ◌≤◌, ◌++◌, ◌⊎◌, IsTrue, IsErrOf, length, IfOk, IfErr, OnOk, Ok, Err};
+ghost use Rattle.std.specs.Prelude.{◌≡◌, ◌≤◌, ◌<◌, ◌∷◌, ◌++◌, ◌⊎◌, IsTrue, IsErrOf, length, IfOk, IfErr, OnOk, Ok, Err};
 ghost use Rattle.rb_io.specs.Outside.{Rose};
 ghost use Rattle.rb_io.specs.Calls.{PutsPart};
 ghost use Rattle.rb_result.specs.Steps.{told_as};
 ghost use Rattle.rb_tree.specs.Columns.{column_count};
+ghost use Rattle.rb_tree.specs.Robot.{Tree};
 ghost use Rattle.rbd.specs.Answer.{answer_to, is_refused, line_of};
 ghost use Rattle.rbd.specs.Columns.{first_line as first_line_of};
 ghost use Rattle.rbd.specs.Course.{course_behind, course_of_rows};
-ghost use Rattle.rbd.specs.Cut.{lines_of};
+ghost use Rattle.rbd.specs.Cut.{line, lines_of};
 ghost use Rattle.rbd.specs.Desk.{IsDeskOf};
 ghost use Rattle.rbd.specs.Fields.{row_of, IsWithin};
-ghost use Rattle.rbd.specs.Inputs.{most_rows, rows as rows_in, rows_of_lines};
+ghost use Rattle.rbd.specs.Inputs.{most_line, most_rows, rows as rows_in, rows_of_lines};
 ghost use Rattle.rbd.specs.Run.{stream, Follows};
 ghost use Rattle.rbd.specs.Stops.{stop_of_rows};
 
 use crate::columns::{first_line, header_of};
 use crate::desk::Desk;
 use crate::header::Header;
-use crate::lines::next_line;
+use crate::lines::{Cut, next_line};
 use crate::stop::{RowsFault, RowsStop};
 use rb_io::{Sink, put_all};
 use rb_tree::Robot;
-use std::alloc::Global;
+use std::alloc::{AllocError, Global};
 
 /// The most bytes of a line, without its LF.
 pub(crate) const MOST_LINE: usize = 65_536;
@@ -101,6 +102,20 @@ fn put_rows<O: Sink>(
     Ok(bad)
 }
 
+/// The line of the header, and what is behind it.
+fn line_of_header(bytes: &[u8]) -> Result<Cut<'_>, RowsFault>
+    ensures lines { IfOk result (λ cut. lines_of bytes.now ≡ line cut.content.now cut.size ∷ lines_of cut.rest.now) }
+    ensures short { IfOk result (λ cut. cut.size ≤ most_line) }
+    ensures shorter { IfOk result (λ cut. length cut.rest.now < length bytes.now) }
+    ensures err { IfErr result (λ fault. (tree : Tree) → rows_of_lines tree (lines_of bytes.now) ≡ Err fault) }
+{
+    match next_line(bytes) {
+        None => Err(RowsFault::BadHeader),
+        Some(first) if first.size > MOST_LINE => Err(RowsFault::LineTooLong(0)),
+        Some(first) => Ok(first),
+    }
+}
+
 /// The header of the rows, and what is behind it.
 fn behind_header<'a>(
     alloc: Global,
@@ -112,32 +127,18 @@ fn behind_header<'a>(
     ensures shorter { IfOk result (λ found. length found.1.now ≤ length bytes.now) }
     ensures err { IfErr result (λ stop. (stop ≡ RowsStop.Memory) ⊎ ((fault : RowsFault) × (stop ≡ RowsStop.Fault fault) × (rows_of_lines robot.now (lines_of bytes.now) ≡ Err fault))) }
 {
-    let Some(first) = next_line(bytes) else {
-        return Err(RowsStop::Fault(RowsFault::BadHeader));
-    };
-    if first.size > MOST_LINE {
-        return Err(RowsStop::Fault(RowsFault::LineTooLong(0)));
-    }
-    match header_of(alloc, robot, first.content) {
-        Ok(Some(header)) => Ok((header, first.rest)),
-        Ok(None) => Err(RowsStop::Fault(RowsFault::BadHeader)),
-        Err(_) => Err(RowsStop::Memory),
-    }
+    let first = line_of_header(bytes)?;
+    let header = header_of(alloc, robot, first.content)?.ok_or(RowsFault::BadHeader)?;
+    Ok((header, first.rest))
 }
 
 /// Makes what the rows of a robot need: the first line, and a desk.
-fn prepare(alloc: Global, robot: &Robot) -> Result<(Vec<u8>, Desk), RowsStop>
+fn prepare(alloc: Global, robot: &Robot) -> Result<(Vec<u8>, Desk), AllocError>
     ensures first { IfOk result (λ made. made.0.items ≡ first_line_of robot.now) }
     ensures desk { IfOk result (λ made. IsDeskOf robot.now made.1) }
-    ensures only { IfErr result (λ stop. stop ≡ RowsStop.Memory) }
 {
-    let Ok(first) = first_line(alloc, robot) else {
-        return Err(RowsStop::Memory);
-    };
-    let Ok(desk) = Desk::new(alloc, robot) else {
-        return Err(RowsStop::Memory);
-    };
-    Ok((first, desk))
+    let first = first_line(alloc, robot)?;
+    Ok((first, Desk::new(alloc, robot)?))
 }
 
 /// Puts the first line, and then the lines of the rows behind the header. Tells whether a row is refused.
@@ -158,7 +159,7 @@ fn answer_behind<O: Sink>(
 {
     let (first, mut desk) = match prepare(alloc, robot) {
         Ok(made) => made,
-        Err(stop) => return Err(stop),
+        Err(_) => return Err(RowsStop::Memory),
     };
     match put(first.as_slice(), out) {
         Ok(()) => put_rows(robot, header, rest, &mut desk, out),

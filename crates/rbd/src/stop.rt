@@ -1,10 +1,11 @@
 //! What ends a run before its last row, by the part of the run that it comes from.
 ghost use Rattle.std.specs.Prelude.{◌≡◌};
-ghost use Rattle.rbd.specs.Stops.{stop_of_read, stop_of_rows};
+ghost use Rattle.rbd.specs.Stops.{refusal_of_tags, refusal_of_urdf, refusal_of_tree, stop_of_refusal, stop_of_read, stop_of_rows};
 
-use rb_tags::TagFault;
-use rb_tree::TreeFault;
-use rb_urdf::UrdfFault;
+use rb_tags::{TagFault, TagKind};
+use rb_tree::{TreeFault, TreeKind};
+use rb_urdf::{UrdfFault, UrdfFaultKind};
+use std::alloc::AllocError;
 
 /// What is wrong with the words.
 #[derive(Clone, Copy, Debug, PartialEq, Eq)]
@@ -76,6 +77,80 @@ pub enum RowsStop {
     Fault(RowsFault),
     Output,
     Memory,
+}
+
+impl From<TagFault> for Refusal<RobotFault> {
+    ghost from_gives = { λ fault refusal. refusal ≡ refusal_of_tags fault };
+
+    fn from(fault: TagFault) -> Self {
+        match fault.kind {
+            TagKind::Memory => Refusal::Memory,
+            _ => Refusal::Fault(RobotFault::Tags(fault)),
+        }
+    }
+}
+
+impl From<UrdfFault> for Refusal<RobotFault> {
+    ghost from_gives = { λ fault refusal. refusal ≡ refusal_of_urdf fault };
+
+    fn from(fault: UrdfFault) -> Self {
+        match fault.kind {
+            UrdfFaultKind::Memory => Refusal::Memory,
+            _ => Refusal::Fault(RobotFault::Urdf(fault)),
+        }
+    }
+}
+
+impl From<TreeFault> for Refusal<RobotFault> {
+    ghost from_gives = { λ fault refusal. refusal ≡ refusal_of_tree fault };
+
+    fn from(fault: TreeFault) -> Self {
+        match fault.kind {
+            TreeKind::Memory => Refusal::Memory,
+            _ => Refusal::Fault(RobotFault::Tree(fault)),
+        }
+    }
+}
+
+impl From<RobotFault> for Refusal<RobotFault> {
+    ghost use Rattle.rbd.specs.declared.stop.Refusal.TheVariants.{Fault};
+
+    ghost from_gives = { λ fault refusal. refusal ≡ Fault fault };
+
+    fn from(fault: RobotFault) -> Self {
+        Refusal::Fault(fault)
+    }
+}
+
+impl From<Refusal<RobotFault>> for ReadStop<RobotFault> {
+    ghost from_gives = { λ refusal stop. stop ≡ stop_of_refusal refusal };
+
+    fn from(refusal: Refusal<RobotFault>) -> Self {
+        match refusal {
+            Refusal::Fault(fault) => ReadStop::Fault(fault),
+            Refusal::Memory => ReadStop::Memory,
+        }
+    }
+}
+
+impl From<RowsFault> for RowsStop {
+    ghost use Rattle.rbd.specs.declared.stop.RowsStop.TheVariants.{Fault};
+
+    ghost from_gives = { λ fault stop. stop ≡ Fault fault };
+
+    fn from(fault: RowsFault) -> Self {
+        RowsStop::Fault(fault)
+    }
+}
+
+impl From<AllocError> for RowsStop {
+    ghost use Rattle.rbd.specs.declared.stop.RowsStop.TheVariants.{Memory};
+
+    ghost from_gives = { λ _ stop. stop ≡ Memory };
+
+    fn from(_error: AllocError) -> Self {
+        RowsStop::Memory
+    }
 }
 
 /// A stop of reading the robot, as one of the run.

@@ -1,4 +1,4 @@
-use Rattle.std.proofs.Common.{◌≡◌, ◌++◌, take, flat_map, map}
+use Rattle.std.proofs.Common.{◌≡◌, ◌++◌, take, flat_map}
 use Rattle.rbd.proofs.Headers.{piece}
 use Rattle.rbd.proofs.columns.put_names.Given as goal
 

@@ -1,5 +1,5 @@
 use Rattle.std.proofs.Common.{◌∙◌, ◌<◌, sym, arith, length}
-use Rattle.rbd.specs.Fields.{fields, numbers_of}
+use Rattle.rbd.specs.Fields.{fields}
 use Rattle.rbd.proofs.Reading.{read_more, read_fault, read_all, fault_in_all}
 use Rattle.rbd.proofs.fields.read_fields.Goals as goal
 

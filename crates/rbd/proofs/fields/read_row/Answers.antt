@@ -1,4 +1,4 @@
-use Rattle.std.proofs.Common.{◌≡◌, ◌∙◌, sym, length, arith}
+use Rattle.std.proofs.Common.{◌≡◌, ◌∙◌, length, arith}
 use Rattle.rbd.specs.Fields.{fields}
 use Rattle.rbd.proofs.Numbers.{sizes_fit}
 use Rattle.rbd.proofs.Reading.{row_told, row_refused, gravity_kept}

@@ -1,14 +1,19 @@
 use Rattle.std.proofs.Common.{◌≡◌, ◌≤◌, Err, ap, length}
+use Rattle.std.proofs.lemmas.Result.{err_from_is_err_and}
 use Rattle.rbd.specs.declared.stop.RobotFault.TheVariants as why
+use Rattle.rbd.specs.declared.stop.ReadStop.TheVariants as read
 use Rattle.rbd.specs.Plan.{most_file}
+use Rattle.rbd.specs.Stops.{stop_of_refusal}
 use Rattle.rbd.proofs.Refusals.{file_refused, never_long}
 use Rattle.rbd.proofs.read.read_robot.Goals as goal
 
 pub returns-in-Err-clause-refused : goal.returns-in-Err-clause-refused
 returns-in-Err-clause-refused g c = λ tells. file_refused c.args.root _ _ _ c.file_stop.ensures (λ is. c.in-Err.ensures.longer tells (ap Err is))
 
-pub returns-in-Err-Fault-clause-long : goal.returns-in-Err-Fault-clause-long
-returns-in-Err-Fault-clause-long g c = λ is.
-    let same : c.in-Err-Fault.fault ≡ why.TooLong = cc in
+pub returns-in_err-robot_of_bytes-clause-long : goal.returns-in_err-robot_of_bytes-clause-long
+returns-in_err-robot_of_bytes-clause-long g c =
+    let p = err_from_is_err_and c.from_residual.result c.from_residual.ensures.1 in
     let short : length c.as_slice.result.now ≤ most_file = rw c.as_slice.ensures c.in-Ok.ensures.within in
-    absurd (never_long c.args.root c.as_slice.result.now c.in-Err-Fault.fault short (rw c.in-Err-Fault.field-0-is at c.in-Err-Fault.ensures.err) same)
+    λ is.
+    let same : stop_of_refusal c.in_err-robot_of_bytes.field-0.0 ≡ read.Fault why.TooLong = cc in
+    absurd (never_long c.args.root c.as_slice.result.now _ short c.in_err-robot_of_bytes.ensures.err same)

@@ -5,7 +5,7 @@ use Rattle.rbd.proofs.Courses.{follows_nothing, follows_first, follows_behind, b
 use Rattle.rbd.proofs.rows.answer_behind.Goals as goal
 
 pub returns-in-Err-clause-follows : goal.returns-in-Err-clause-follows
-returns-in-Err-clause-follows g c = rw c.in-Err.ensures.only (follows_nothing _ _ _ refl (λ told. refl))
+returns-in-Err-clause-follows g c = follows_nothing _ _ _ refl (λ told. refl)
 
 pub returns-in-Ok-put-clause-follows : goal.returns-in-Ok-put-clause-follows
 returns-in-Ok-put-clause-follows g c =

@@ -1,4 +1,4 @@
-use Rattle.std.proofs.Common.{rules, arith, sym, ◌∙◌, ap}
+use Rattle.std.proofs.Common.{rules, arith, sym, ◌∙◌}
 use Rattle.rb_io.proofs.Parts.{puts_more, part_more}
 use Rattle.rbd.specs.Cut.{lines_of}
 use Rattle.rbd.proofs.Courses.{follows_long, follows_end, follows_fault}

@@ -1,6 +1,5 @@
 use Rattle.std.proofs.Common.{length, ◌≡◌, ◌≤◌, ◌+◌, IsTrue, false}
 use Rattle.rb_io.specs.Calls.{Puts}
-use Rattle.rb_tree.specs.Columns.{column_count}
 use Rattle.rbd.specs.Cut.{lines_of}
 use Rattle.rbd.specs.Desk.{IsDeskOf}
 use Rattle.rbd.proofs.EachRow.{text_from, answer_from}
