@@ -10,11 +10,13 @@ pub mod Distinct
 pub mod Faulty
 pub mod Folds
 pub mod Follows
+pub mod Given
 pub mod Judged
 pub mod Loop
 pub mod MarkLaws
 pub mod Nested
 pub mod Numbering
+pub mod Obeying
 pub mod Over
 pub mod Parts
 pub mod References

@@ -10,7 +10,7 @@ use Rattle.rb_tags.specs.Names.{number_of_name}
 abbrev pub texts : List (Bor (List ℕ)) → List (List ℕ)
 texts keys = map (λ key. key.now) keys
 
-list_any-map : {A B : Type 0} (f : A → B) (p : B → Bool) (xs : List A) → list_any p (map f xs) ≡ list_any (λ x. p (f x)) xs
+pub list_any-map : {A B : Type 0} (f : A → B) (p : B → Bool) (xs : List A) → list_any p (map f xs) ≡ list_any (λ x. p (f x)) xs
 list_any-map f p [] = refl
 list_any-map f p (x ∷ xs) = ap (λ b. p (f x) || b) (list_any-map f p xs)
 

@@ -2,7 +2,7 @@
 use Rattle.std.proofs.Common.{◌≡◌, ℕ, zero, suc, ◌-◌, ◌<◌, ◌≤◌, true, false, List, [], ◌∷◌, length, take, drop, get_or, refl, sym, ap, ◌∙◌, arith}
 use Rattle.std.proofs.lemmas.List.{take_all}
 use Rattle.rb_tags.specs.declared.tag.Tag.{Tag}
-use Rattle.rb_tags.specs.Elements.{element_of, is_child, elements}
+use Rattle.rb_tags.specs.Elements.{element_of, is_inside, is_child, elements_inside, elements}
 
 -- a list by its first item and the others
 pub first_and_others : {A : Type 0} (xs : List A) (x : A) → 1 ≤ length xs → x ≡ get_or xs 0 x → xs ≡ x ∷ take (length xs - 1) (drop 1 xs)
@@ -35,6 +35,31 @@ pub elements-none : (name : List ℕ) (around : ℕ) (tags : List Tag) → lengt
 unfolding elements
 elements-none name around [] h = refl
 elements-none name around (tag ∷ tags) h = absurd (omega arith)
+
+pub inside-child : (around : ℕ) (tag : Tag) (tags : List Tag) → is_inside around tag ≡ true → elements_inside around (tag ∷ tags) ≡ element_of tag tags ∷ elements_inside around tags
+unfolding elements_inside
+inside-child around tag tags h = rw h refl
+
+pub inside-other : (around : ℕ) (tag : Tag) (tags : List Tag) → is_inside around tag ≡ false → elements_inside around (tag ∷ tags) ≡ elements_inside around tags
+unfolding elements_inside
+inside-other around tag tags h = rw h refl
+
+module _ (around : ℕ) (tags : List Tag) (tag : Tag) where
+  abbrev pub others : List Tag
+  others = take (length tags - 1) (drop 1 tags)
+
+  -- the first tag is directly inside
+  pub inside-first : 1 ≤ length tags → tag ≡ get_or tags 0 tag → is_inside around tag ≡ true → elements_inside around tags ≡ element_of tag others ∷ elements_inside around others
+  inside-first h first is = ap (elements_inside around) (first_and_others tags tag h first) ∙ inside-child around tag others is
+
+  -- the first tag is not directly inside
+  pub inside-others : 1 ≤ length tags → tag ≡ get_or tags 0 tag → is_inside around tag ≡ false → elements_inside around tags ≡ elements_inside around others
+  inside-others h first is = ap (elements_inside around) (first_and_others tags tag h first) ∙ inside-other around tag others is
+
+pub inside-none : (around : ℕ) (tags : List Tag) → length tags < 1 → elements_inside around tags ≡ []
+unfolding elements_inside
+inside-none around [] h = refl
+inside-none around (tag ∷ tags) h = absurd (omega arith)
 
 take-nil : {A : Type 0} (n : ℕ) → take n (let none : List A = [] in none) ≡ []
 take-nil zero = refl

@@ -20,9 +20,19 @@ is_deeper depth tag = nat_lt depth tag.depth
 abbrev pub element_of : Tag → List Tag → Element
 element_of tag behind = record { tag = tag; inside = take_while (is_deeper tag.depth) behind }
 
+-- a tag directly inside an element of a depth
+unfoldable pub is_inside : ℕ → Tag → Bool
+is_inside around tag = tag.depth == around + 1
+
 -- a tag of this name, directly inside an element of a depth
 unfoldable pub is_child : List ℕ → ℕ → Tag → Bool
 is_child name around tag = tag.depth == around + 1 && bytes_eq tag.name name
+
+-- the elements directly inside an element of a depth, in file order
+unfoldable pub elements_inside : ℕ → List Tag → List Element
+elements_inside around [] = []
+elements_inside around (tag ∷ tags) =
+    if is_inside around tag then element_of tag tags ∷ elements_inside around tags else elements_inside around tags
 
 -- the elements of this name, directly inside an element of a depth
 unfoldable pub elements : List ℕ → ℕ → List Tag → List Element

@@ -1,7 +1,7 @@
 // Elements, their child elements and their attributes.
 ghost use Rattle.std.specs.Prelude.{◌≡◌, option_map, option_copied, slice_get};
 ghost use Rattle.std.specs.List.{take_while};
-ghost use Rattle.rb_tags.specs.Elements.{is_deeper, element_of, is_child, elements, child, child_in, attribute, attribute_in, given, as_element};
+ghost use Rattle.rb_tags.specs.Elements.{is_deeper, element_of, is_inside, is_child, elements, child, child_in, attribute, attribute_in, given, as_element};
 
 use crate::tag::Tag;
 
@@ -10,6 +10,15 @@ use crate::tag::Tag;
 pub struct ElementRef<'a> {
     pub tag: &'a Tag,
     pub inside: &'a [Tag],
+}
+
+/// Whether a tag is directly inside an element of a depth.
+#[inline]
+#[tactic(auto, unfolding(crate::specs::Elements::is_inside))]
+pub fn is_inside(around: u32, tag: &Tag) -> bool
+    ensures { result ≡ is_inside around tag.now }
+{
+    tag.depth > around && tag.depth - 1 == around
 }
 
 /// Whether a tag has this name and is directly inside an element of a depth.

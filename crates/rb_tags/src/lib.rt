@@ -14,7 +14,7 @@ mod text;
 mod values;
 mod words;
 
-pub use element::{ElementRef, attribute_in, child_in, is_child};
+pub use element::{ElementRef, attribute_in, child_in, is_child, is_inside};
 pub use laws::tags_by_grammar;
 pub use names::Names;
 pub use read::{TagFault, TagKind, read_tags};

@@ -70,6 +70,13 @@ impl<'a> Names<'a> {
         Ok(self.names.insert(name)?)
     }
 
+    /// Whether one of them is this.
+    pub fn has(&self, name: &str) -> bool
+        ensures { result ≡ list_any (bytes_eq name.now) self.now }
+    {
+        self.names.contains(name)
+    }
+
     /// The number of a name, from 0.
     pub fn number_of(&self, name: &str) -> Option<u32>
         requires { length self.now ≤ 2 ^ 32 }
