@@ -116,7 +116,7 @@ exact-is units v h =
     let high : v.hi ≡ units = (Decides-int_eq v.hi units).0 p.1 in
     ap (λ a. interval a v.hi) low ∙ ap (interval units) high
 
-plane_axis-is : (v : List Interval) → is_plane_axis v ≡ true → v ≡ plane_axis
+pub plane_axis-is : (v : List Interval) → is_plane_axis v ≡ true → v ≡ plane_axis
 unfolding is_plane_axis
 plane_axis-is [] h = absurd cc
 plane_axis-is (x ∷ []) h = absurd cc
@@ -131,7 +131,7 @@ pub plane_axis-exact : is_plane_axis plane_axis ≡ true
 unfolding is_plane_axis
 plane_axis-exact = refl
 
-planar_exact : (b : Bool) → not b ≡ false → b ≡ true
+pub planar_exact : (b : Bool) → not b ≡ false → b ≡ true
 planar_exact true h = refl
 planar_exact false h = absurd cc
 

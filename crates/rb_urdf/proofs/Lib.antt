@@ -1,13 +1,14 @@
 pub mod CompleteLaws
 pub mod DraftLaws
-pub mod FirstFaults
 pub mod JointLemmas
 pub mod LinkLaws
 pub mod MimicLaws
 pub mod NameLaws
 pub mod NumberLaws
+pub mod Obeyed
+pub mod ObeyedJoints
+pub mod ObeyedLinks
+pub mod ObeyedMimics
 pub mod Placed
-pub mod RefusedJointLaws
-pub mod RefusedLaws
 pub mod SoundLaws
 pub mod Zips

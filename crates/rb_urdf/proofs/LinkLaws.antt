@@ -29,7 +29,7 @@ not_below z h = grind (arith, ints)
 at_least : (z : ℤ) → pos 0 ≤ℤ z → int_lt z (pos 0) ≡ false
 at_least z h = grind (arith, ints)
 
-six-says : (inertia : Option Element) (six : List Interval) → six_of inertia ≡ Ok six → SaysSix inertia six
+pub six-says : (inertia : Option Element) (six : List Interval) → six_of inertia ≡ Ok six → SaysSix inertia six
 unfolding six_of
 six-says inertia six h =
     let number : (key : List ℕ) → Result Interval UrdfFaultKind = λ key. number_or zero_interval key inertia in

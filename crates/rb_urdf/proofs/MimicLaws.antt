@@ -28,12 +28,12 @@ use Rattle.rb_result.proofs.Results.{then-ok, found-ok, unless-ok, placed-ok}
 use Rattle.rb_result.specs.Steps.{placed}
 use Rattle.rb_urdf.specs.Faults.{fault_at}
 
-neither : (a b : Bool) → (not a || not b) ≡ false → (a ≡ true) × (b ≡ true)
+pub neither : (a b : Bool) → (not a || not b) ≡ false → (a ≡ true) × (b ≡ true)
 neither true true h = (refl, refl)
 neither true false h = absurd cc
 neither false b h = absurd cc
 
-leading : (kind : UrdfKind) → may_lead kind ≡ true → (kind ≡ Revolute) ⊎ (kind ≡ Prismatic)
+pub leading : (kind : UrdfKind) → may_lead kind ≡ true → (kind ≡ Revolute) ⊎ (kind ≡ Prismatic)
 leading Revolute h = inl refl
 leading Prismatic h = inr refl
 leading Fixed h = absurd cc
@@ -58,7 +58,7 @@ record Found (names : List (List ℕ)) (heads : List Head) (kind : UrdfKind) (fo
   multiplier : mimic.multiplier ≡ follow.multiplier
   offset : mimic.offset ≡ follow.offset
 
-number-in : (names : List (List ℕ)) (said : Option (List ℕ)) (n : ℕ) → option_and_then (number_of_name names) said ≡ Some n → (name : List ℕ) × (said ≡ Some name) × (slice_get names n ≡ Some name)
+pub number-in : (names : List (List ℕ)) (said : Option (List ℕ)) (n : ℕ) → option_and_then (number_of_name names) said ≡ Some n → (name : List ℕ) × (said ≡ Some name) × (slice_get names n ≡ Some name)
 number-in names None n h = absurd cc
 number-in names (Some name) n h = (name, refl, number-says names name n h)
 

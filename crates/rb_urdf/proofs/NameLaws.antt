@@ -1,6 +1,6 @@
 -- Names that are given, and that differ.
-use Rattle.std.proofs.Common.{eqb, ne_eqb, Option, None, ◌≡◌, ◌≢◌, ℕ, ◌+◌, ◌<◌, Bool, true, false, List, [], ◌∷◌, ◌++◌, length, get_or, slice_get, Some, Ok, refl, sym, ap, ◌∙◌, subst, arith}
-use Rattle.std.specs.Prelude.{bytes_eq, codes, option_and_then}
+use Rattle.std.proofs.Common.{◌≡◌, ℕ, ◌+◌, ◌<◌, Bool, true, false, List, ◌∷◌, ◌++◌, length, get_or, slice_get, Some, Ok, refl, sym, ap, ◌∙◌, subst, arith}
+use Rattle.std.specs.Prelude.{bytes_eq, codes}
 use Rattle.std.specs.List.{list_any, position_or_len}
 use Rattle.std.proofs.lemmas.Bool.Decides.{nat_tests}
 use Rattle.std.proofs.lemmas.Slice.Eq.{bytes_eq-Decides}
@@ -11,33 +11,22 @@ use Rattle.std.proofs.lemmas.List.Sums.{position_or_len_is}
 use Rattle.std.proofs.lemmas.List.Folds.{list_any_none}
 use Rattle.std.proofs.lemmas.List.Quantifiers.{position-Some}
 use Rattle.rb_urdf.specs.declared.faults.UrdfFaultKind.TheVariants.{NoName, NameTwice}
-use Rattle.rb_tags.specs.Elements.{Element, attribute, given, filled}
+use Rattle.rb_tags.specs.Elements.{Element, given}
+use Rattle.rb_tags.proofs.Given.{given_says, given_read}
 use Rattle.rb_urdf.specs.Names.{new_name, name_of, name_after}
 use Rattle.rb_urdf.specs.Profile.{HasName}
 use Rattle.rb_tags.specs.Names.{number_of_name, AreDifferent}
 use Rattle.rb_result.proofs.Results.{then-ok, found-ok, unless-ok}
 
-filled-says : (text : Option (List ℕ)) (said : List ℕ) → option_and_then filled text ≡ Some said → (text ≡ Some said) × (said ≢ [])
-filled-says None said h = absurd cc
-filled-says (Some []) said h = absurd cc
-filled-says (Some (b ∷ bs)) said h =
-    let full : eqb (length (b ∷ bs)) 0 ≡ false = ne_eqb (length (b ∷ bs)) 0 (λ e. omega arith) in
-    let same : Some (b ∷ bs) ≡ Some said = rw full at h in
-    (same, λ none. let clash : Some (b ∷ bs) ≡ Some [] = same ∙ ap Some none in absurd cc)
-
-filled-read : (said : List ℕ) → said ≢ [] → filled said ≡ Some said
-filled-read [] some = absurd (some refl)
-filled-read (b ∷ bs) some = rw (ne_eqb (length (b ∷ bs)) 0 (λ e. omega arith)) refl
-
 pub name-says : (element : Element) (name : List ℕ) → name_of element ≡ Ok name → HasName element name
-unfolding name_of given
+unfolding name_of
 name-says element name h =
-    let f = filled-says (attribute (codes "name") element) name (found-ok (given (codes "name") element) NoName name h) in
-    record { says = f.0; given = f.1 }
+    let s = given_says (codes "name") element name (found-ok (given (codes "name") element) NoName name h) in
+    record { says = s.0; given = s.1 }
 
 pub name-read : (element : Element) (name : List ℕ) → HasName element name → name_of element ≡ Ok name
-unfolding name_of given
-name-read element name h = rw (h.says, filled-read name h.given) refl
+unfolding name_of
+name-read element name h = rw (given_read (codes "name") element name h.says h.given) refl
 
 pub new-says : (names : List (List ℕ)) (name said : List ℕ) → new_name names name ≡ Ok said → (name ≡ said) × (list_any (bytes_eq said) names ≡ false)
 unfolding new_name

@@ -1,5 +1,5 @@
 -- Two lists whose items are related place by place.
-use Rattle.std.proofs.Common.{◌≡◌, ℕ, zero, suc, List, [], ◌∷◌, map, slice_get, Some, refl, ap, subst}
+use Rattle.std.proofs.Common.{◌≡◌, ℕ, zero, suc, List, [], ◌∷◌, ◌++◌, map, slice_get, Some, refl, ap, subst}
 use Rattle.std.specs.List.{AllZip, AllByRecursion}
 
 module _ {A B : Type 0} (R : A → B → Type 0) where
@@ -30,6 +30,12 @@ module _ {A B : Type 0} (R : A → B → Type 0) where
   same-maps f g same [] (y ∷ ys) h = absurd h
   same-maps f g same (x ∷ xs) [] h = absurd h
   same-maps f g same (x ∷ xs) (y ∷ ys) h = rw (same x y h.0) (ap (λ zs. g y ∷ zs) (same-maps f g same xs ys h.1))
+
+  pub push : (xs : List A) (ys : List B) (x : A) (y : B) → AllZip R xs ys → R x y → AllZip R (xs ++ x ∷ []) (ys ++ y ∷ [])
+  push [] [] x y each r = (r, tt)
+  push [] (b ∷ ys) x y each r = absurd each
+  push (a ∷ xs) [] x y each r = absurd each
+  push (a ∷ xs) (b ∷ ys) x y each r = (each.0, push xs ys x y each.1 r)
 
 -- a relation that follows from another
 pub each-pair : {A B : Type 0} (R S : A → B → Type 0) → ((x : A) (y : B) → R x y → S x y) → (xs : List A) (ys : List B) → AllZip R xs ys → AllZip S xs ys

@@ -18,3 +18,15 @@ DescribedIsRead = (tags : List Tag) (robot : Robot) → IsUrdf tags robot → ur
 -- tags that are refused have the fault
 abbrev pub RefusesFaulty : Type 0
 RefusesFaulty = (tags : List Tag) (fault : UrdfFault) → urdf_of tags ≡ Err fault → HasFault tags fault
+
+-- tags that have a fault are refused with it
+abbrev pub FaultyIsRefused : Type 0
+FaultyIsRefused = (tags : List Tag) (fault : UrdfFault) → HasFault tags fault → urdf_of tags ≡ Err fault
+
+-- tags have at most one fault
+abbrev pub HasOneFault : Type 0
+HasOneFault = (tags : List Tag) (fault other : UrdfFault) → HasFault tags fault → HasFault tags other → fault ≡ other
+
+-- and none where they describe a robot
+abbrev pub FaultExcludesRobot : Type 0
+FaultExcludesRobot = (tags : List Tag) (robot : Robot) (fault : UrdfFault) → IsUrdf tags robot → HasFault tags fault → ⊥

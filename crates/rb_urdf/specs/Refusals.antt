@@ -1,21 +1,21 @@
--- What is wrong with tags that no robot has, in the words of the format.
-use Rattle.std.specs.Prelude.{◌≡◌, ◌≢◌, ◌⊎◌, ℕ, List, [], ◌∷◌, ◌++◌, slice_get, codes, pos, ◌<ℤ◌, Option, None, Some}
+-- What may be wrong with tags, in the words of the format, and the order in which it is told.
+use Rattle.std.specs.Prelude.{◌≡◌, ◌≢◌, ◌⊎◌, ℕ, List, [], ◌∷◌, ◌++◌, map, slice_get, codes, pos, ◌<ℤ◌, Option, None, Some}
 use Rattle.std.specs.List.{AllByRecursion}
 use Rattle.rb_num.specs.Interval.{Interval, zero_interval, one_interval}
 use Rattle.rb_tags.specs.declared.tag.Tag.{Tag}
+use Rattle.rb_tags.specs.InOrder.{SaysNone, Refusal, ◌when◌, IsFirst, at_place, in_turn}
 use Rattle.rb_urdf.specs.declared.robot.UrdfKind.{UrdfKind}
 use Rattle.rb_urdf.specs.declared.robot.UrdfKind.TheVariants.{Fixed, Revolute, Prismatic, Planar, Floating}
 use Rattle.rb_urdf.specs.declared.faults.UrdfFault.{UrdfFault}
 use Rattle.rb_urdf.specs.declared.faults.UrdfFaultKind.{UrdfFaultKind}
 use Rattle.rb_urdf.specs.declared.faults.UrdfFaultKind.TheVariants as kind
+use Rattle.rb_urdf.specs.Faults.{fault_at}
 use Rattle.rb_urdf.specs.Robot.{plane_axis}
 use Rattle.rb_tags.specs.Elements.{Element, element_of, elements, child, child_in, attribute, attribute_in}
 use Rattle.rb_urdf.specs.Numbers.{zeros}
 use Rattle.rb_urdf.specs.Profile.{SaysNumber, SaysThree, SaysSix, SaysAxisNumbers, HasName, type_name, IsXacro}
 
--- no value is said
-abbrev pub SaysNone : {A : Type 0} → (A → Type 0) → Type 0
-SaysNone {A} Says = (v : A) → ¬ Says v
+-- ---- what may be wrong
 
 -- an element has no name, or an empty one
 abbrev pub LacksName : Element → Type 0
@@ -119,72 +119,61 @@ pub record FollowsUnfit (joints : List Element) (joint : Element) : Type 0 where
   pub type_is : HasType joint type
   pub unfit : ((master_type ≢ Revolute) × (master_type ≢ Prismatic)) ⊎ ((type ≡ Fixed) ⊎ ((type ≡ Planar) ⊎ (type ≡ Floating)))
 
--- P holds of one of these elements, which is at a place, and of those before it
-pub record At (elements : List Element) (place : ℕ) (P : List Element → Element → Type 0) : Type 0 where
-  pub before : List Element
-  pub element : Element
-  pub others : List Element
-  pub are : elements ≡ before ++ element ∷ others
-  pub place_is : place ≡ element.tag.place
-  pub fault : P before element
+-- ---- the order in which it is told
 
--- no tag is there, or the first is no robot
-abbrev pub IsNoRobot : List Tag → ℕ → Type 0
-IsNoRobot [] place = place ≡ 0
-IsNoRobot (root ∷ tags) place = (root.name ≢ codes "robot") × (place ≡ root.place)
+-- the refusals of a link behind these
+abbrev pub link_refusals : List Element → Element → List (Refusal UrdfFaultKind)
+link_refusals before link =
+    kind.NoName when LacksName link
+    ∷ kind.NameTwice when HasNameAgain before link
+    ∷ kind.BadNumber when LinkHasBadNumber link
+    ∷ kind.NegativeMass when HasNegativeMass link
+    ∷ []
 
--- the first tag whose name begins with xacro:
-pub record HasXacro (tags : List Tag) (place : ℕ) : Type 0 where
-  pub before : List Tag
-  pub tag : Tag
-  pub others : List Tag
-  pub are : tags ≡ before ++ tag ∷ others
-  pub place_is : place ≡ tag.place
-  pub xacro : IsXacro tag
-  pub first : AllByRecursion (λ tag. ¬ IsXacro tag) before
+-- the refusals of a joint behind these, in a robot with these links
+abbrev pub joint_refusals : List Element → List Element → Element → List (Refusal UrdfFaultKind)
+joint_refusals links before joint =
+    kind.NoName when LacksName joint
+    ∷ kind.NameTwice when HasNameAgain before joint
+    ∷ kind.BadType when SaysNone (HasType joint)
+    ∷ kind.NoParent when LacksEnd (codes "parent") joint
+    ∷ kind.NoChild when LacksEnd (codes "child") joint
+    ∷ kind.UnknownLink when (HasUnknownEnd links (codes "parent") joint ⊎ HasUnknownEnd links (codes "child") joint)
+    ∷ kind.BadNumber when JointHasBadNumber joint
+    ∷ kind.PlanarAxis when HasOtherAxis joint
+    ∷ []
 
--- the robot has no name, or an empty one
-abbrev pub RobotLacksName : List Tag → ℕ → Type 0
-RobotLacksName [] place = ⊥
-RobotLacksName (root ∷ tags) place = LacksName (element_of root tags) × (place ≡ root.place)
+-- the refusals of one of these joints as one that follows another
+abbrev pub mimic_refusals : List Element → Element → List (Refusal UrdfFaultKind)
+mimic_refusals joints joint =
+    kind.MimicUnknown when FollowsNone joints joint
+    ∷ kind.MimicChain when FollowsFollower joints joint
+    ∷ kind.MimicMaster when FollowsUnfit joints joint
+    ∷ []
 
--- the tags behind the first
-abbrev pub behind_first : List Tag → List Tag
-behind_first [] = []
-behind_first (root ∷ tags) = tags
+-- the refusals of these elements in file order, behind those before
+abbrev pub in_order : (List Element → Element → List (Refusal UrdfFaultKind)) → List Element → List Element → List (Refusal UrdfFault)
+in_order refusals before elements = in_turn (λ before element. at_place fault_at element.tag.place (refusals before element)) before elements
 
-abbrev pub link_elements : List Tag → List Element
-link_elements tags = elements (codes "link") 1 (behind_first tags)
+-- of all links, then of all joints, then of all joints as those that follow others
+abbrev pub part_refusals : List Element → List Element → List (Refusal UrdfFault)
+part_refusals links joints =
+    in_order link_refusals [] links
+    ++ (in_order (joint_refusals links) [] joints
+    ++ in_order (λ before joint. mimic_refusals joints joint) [] joints)
 
-abbrev pub joint_elements : List Tag → List Element
-joint_elements tags = elements (codes "joint") 1 (behind_first tags)
+abbrev pub xacro_refusals : List Tag → List (Refusal UrdfFault)
+xacro_refusals tags = map (λ tag. fault_at kind.Xacro tag.place when IsXacro tag) tags
 
-abbrev pub AtLink : List Tag → ℕ → (List Element → Element → Type 0) → Type 0
-AtLink tags place P = At (link_elements tags) place P
+-- all refusals of tags in their order
+abbrev pub refusals : List Tag → List (Refusal UrdfFault)
+refusals [] = fault_at kind.NoRobot 0 when Unit {0} ∷ []
+refusals (root ∷ behind) =
+    fault_at kind.NoRobot root.place when (root.name ≢ codes "robot")
+    ∷ (xacro_refusals (root ∷ behind)
+    ++ (fault_at kind.NoName root.place when LacksName (element_of root behind)
+    ∷ part_refusals (elements (codes "link") 1 behind) (elements (codes "joint") 1 behind)))
 
-abbrev pub AtJoint : List Tag → ℕ → (List Element → Element → Type 0) → Type 0
-AtJoint tags place P = At (joint_elements tags) place P
-
-abbrev pub HasFaultAt : List Tag → UrdfFaultKind → ℕ → Type 0
-HasFaultAt tags kind.NoRobot place = IsNoRobot tags place
-HasFaultAt tags kind.Xacro place = HasXacro tags place
-HasFaultAt tags kind.NoName place =
-    RobotLacksName tags place ⊎ (AtLink tags place (λ before link. LacksName link) ⊎ AtJoint tags place (λ before joint. LacksName joint))
-HasFaultAt tags kind.NameTwice place = AtLink tags place HasNameAgain ⊎ AtJoint tags place HasNameAgain
-HasFaultAt tags kind.BadNumber place =
-    AtLink tags place (λ before link. LinkHasBadNumber link) ⊎ AtJoint tags place (λ before joint. JointHasBadNumber joint)
-HasFaultAt tags kind.NegativeMass place = AtLink tags place (λ before link. HasNegativeMass link)
-HasFaultAt tags kind.BadType place = AtJoint tags place (λ before joint. SaysNone (HasType joint))
-HasFaultAt tags kind.NoParent place = AtJoint tags place (λ before joint. LacksEnd (codes "parent") joint)
-HasFaultAt tags kind.NoChild place = AtJoint tags place (λ before joint. LacksEnd (codes "child") joint)
-HasFaultAt tags kind.UnknownLink place =
-    AtJoint tags place (λ before joint. HasUnknownEnd (link_elements tags) (codes "parent") joint ⊎ HasUnknownEnd (link_elements tags) (codes "child") joint)
-HasFaultAt tags kind.PlanarAxis place = AtJoint tags place (λ before joint. HasOtherAxis joint)
-HasFaultAt tags kind.MimicUnknown place = AtJoint tags place (λ before joint. FollowsNone (joint_elements tags) joint)
-HasFaultAt tags kind.MimicChain place = AtJoint tags place (λ before joint. FollowsFollower (joint_elements tags) joint)
-HasFaultAt tags kind.MimicMaster place = AtJoint tags place (λ before joint. FollowsUnfit (joint_elements tags) joint)
-HasFaultAt tags kind.Memory place = ⊥
-
--- an element at the place has the fault
+-- the fault of the first of all refusals whose condition holds
 abbrev pub HasFault : List Tag → UrdfFault → Type 0
-HasFault tags fault = HasFaultAt tags fault.kind fault.at
+HasFault tags fault = IsFirst (refusals tags) fault
