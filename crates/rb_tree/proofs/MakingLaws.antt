@@ -1,9 +1,8 @@
 -- What is made of the links and the joints of a robot, body by body.
 use Rattle.std.proofs.Common.{◌≡◌, ◌≢◌, ℕ, zero, suc, ◌+◌, ◌<◌, ◌≤◌, List, [], ◌∷◌, ◌++◌, length, take, get_or, Option, None, Some, ◌⊎◌, inl, inr, add-one, sym, ◌∙◌, ap, subst, refl, arith}
-use Rattle.std.specs.List.{slice_get, AllByRecursion, AllZip}
+use Rattle.std.specs.List.{slice_get, sum_by, AllByRecursion, AllZip}
 use Rattle.std.specs.Option.{option_map_or}
 use Rattle.std.specs.Prelude.{Result, Ok, Err, IfOk, IfErr, IsErrAnd}
-use Rattle.rb_tags.specs.declared.root.RootKind.{RootKind}
 use Rattle.std.proofs.Math.Seq.{take-suc}
 use Rattle.std.proofs.lemmas.Bool.{cases_order, cases_lt}
 use Rattle.std.proofs.lemmas.Option.{get_or_from_slice_get, slice_get_within, same_Some}
@@ -21,7 +20,8 @@ use Rattle.rb_urdf.specs.declared.robot.UrdfKind.{UrdfKind}
 use Rattle.rb_urdf.specs.declared.robot.UrdfKind.TheVariants.{Fixed, Revolute, Prismatic, Continuous, Planar, Floating}
 use Rattle.rb_urdf.specs.declared.robot.UrdfLink.{UrdfLink}
 use Rattle.rb_urdf.specs.declared.robot.UrdfJoint.{UrdfJoint}
-use Rattle.rb_urdf.specs.Robot.{Robot, IsRobot}
+use Rattle.rb_urdf.specs.declared.robot.UrdfMimic.{UrdfMimic}
+use Rattle.rb_urdf.specs.Robot.{Robot, IsRobot, HasMaster, FollowsWell}
 use Rattle.rb_urdf.proofs.Zips.{beside_left, each-pair, each-right}
 use Rattle.rb_body.specs.declared.raw.LinkRaw.{LinkRaw}
 use Rattle.rb_body.specs.declared.raw.JointRaw.{JointRaw}
@@ -38,10 +38,14 @@ use Rattle.rb_tree.specs.Faults.{no_memory}
 use Rattle.rb_tree.specs.Names.{ShareName}
 use Rattle.rb_tree.specs.Sizes.{columns_of, bearer_of, bearer_columns, stem_columns, HasOwnRootName, HaveOwnNames}
 use Rattle.rb_tree.specs.Order.{no_stem, stem_of, IsOrder, IsAccepted}
-use Rattle.rb_tree.specs.Columns.{full_columns, own_columns, unless_mimic, mimic_or, leader_at, parent_at, body_at}
-use Rattle.rb_tree.specs.Robot.{IsAxisKept, IsBodyKept, HasOwnJointName, AreBodies}
-use Rattle.rb_tree.specs.Parts.{fault_at, raw_of, inertia_made, joint_made, root_kind, root_joint, IsMadeOf, IsRefusedAt}
-use Rattle.rb_tree.specs.Build.{IsPair, IsBody, IsBuilt, HasConstants, IsRefused, HasConstantFault, IsJointThere, IsStemThere, IsBodyOf}
+use Rattle.rb_tree.specs.Columns.{full_columns, own_columns, unless_mimic, mimic_or, parent_at, body_at}
+use Rattle.rb_tree.specs.Robot.{IsAxisKept, IsBodyKept, HasOwnJointName, FollowsMaster, AreBodies}
+use Rattle.rb_tree.specs.Parts.{fault_at, raw_of, inertia_made, joint_made, IsMadeOf, IsRefusedAt}
+use Rattle.rb_tree.specs.Build.{IsPair, IsFollowing, Follows, IsBody, AreBuilt, IsJointThere, IsStemThere, IsMimicOrdered, IsBodyOf}
+use Rattle.rb_tree.specs.Refusals.{HasConstants, IsRefused, HasConstantFault}
+use Rattle.rb_tree.proofs.Borne.{bearer_well}
+use Rattle.rb_tree.proofs.Shapes.{body_there}
+use Rattle.std.proofs.lemmas.List.Sums.{sum_by-cons}
 use Rattle.rb_tree.proofs.ListLaws.{AllZip-more, AllZip-firsts, AllZip-sum, apart, same_item}
 use Rattle.rb_tree.proofs.NameLaws.{share_same, share_turned, stems_share}
 
@@ -143,23 +147,67 @@ stem_low robot stems (suc k) stem o h =
     omega (arith, ap (λ (s : Stem). s.parent) (stem_found stems (suc k) stem h), low.1)
 
 -- ---- robots
-pub have_constants : (robot : Robot) (root : UrdfJoint) (stems : List Stem) (bodies : List Body) → AllZip (IsBodyOf robot root) stems bodies →
-    AllByRecursion (HasConstants robot root) stems
-have_constants robot root stems bodies e = AllZip-firsts (IsBodyOf robot root) (HasConstants robot root) (λ stem body b. (body, b.is)) stems bodies e
-
-leader_found : (o : Option Body) (i : ℕ) → ((b : Body) → o ≡ Some b → b.mimic ≡ None) → option_map_or (λ (b : Body). mimic_or b.mimic i) o i ≡ i
-leader_found None i h = refl
-leader_found (Some b) i h = ap (λ (m : Option Mimic). mimic_or m i) (h b refl)
+pub have_constants : (robot : Robot) (root : UrdfJoint) (order stems : List Stem) (bodies : List Body) → AllZip (IsBodyOf robot root order) stems bodies →
+    AllByRecursion (HasConstants robot root order) stems
+have_constants robot root order stems bodies e = AllZip-firsts (IsBodyOf robot root order) (HasConstants robot root order) (λ stem body b. (body, b.is)) stems bodies e
 
 low_parent : (o : Option Body) (i : ℕ) → 1 ≤ i → ((b : Body) → o ≡ Some b → b.parent < i) → option_map_or (λ (b : Body). b.parent) o 0 < i
 low_parent None i from h = from
 low_parent (Some b) i from h = h b refl
 
-full_is : (robot : Robot) (root : UrdfJoint) (stem : Stem) (body : Body) → IsBodyOf robot root stem body → full_columns body ≡ stem_columns root robot.joints stem
-full_is robot root stem body b = ap Flat.column_count b.kind ∙ (kind_columns b.is.joint.kind ∙ sym (ap bearer_columns b.is.pair.joint_is))
+full_is : (robot : Robot) (root : UrdfJoint) (order : List Stem) (stem : Stem) (body : Body) → IsBodyOf robot root order stem body → full_columns body ≡ stem_columns root robot.joints stem
+full_is robot root order stem body b = ap Flat.column_count b.kind ∙ (kind_columns b.is.joint.kind ∙ sym (ap bearer_columns b.is.pair.joint_is))
 
-own_is : (robot : Robot) (root : UrdfJoint) (stem : Stem) (body : Body) → IsBodyOf robot root stem body → own_columns body ≡ stem_columns root robot.joints stem
-own_is robot root stem body b = ap (λ (m : Option Mimic). unless_mimic m (full_columns body)) b.is.made.mimic ∙ full_is robot root stem body b
+unless_few : (m : Option Mimic) (count : ℕ) → unless_mimic m count ≤ count
+unless_few None count = omega arith
+unless_few (Some mimic) count = omega arith
+
+own_few : (bodies : List Body) → sum_by own_columns bodies ≤ sum_by full_columns bodies
+own_few [] = omega arith
+own_few (body ∷ rest) = omega (arith, sum_by-cons own_columns body rest, sum_by-cons full_columns body rest, unless_few body.mimic (full_columns body), own_few rest)
+
+-- ---- joints that follow others
+leads_none : (order : List Stem) (followed : Option UrdfMimic) (mimic : Option Mimic) → Follows order followed mimic → followed ≡ None → mimic ≡ None
+leads_none order None None f e = refl
+leads_none order None (Some m) f e = absurd f
+leads_none order (Some x) m f e = absurd cc
+
+none_leads : (order : List Stem) (followed : Option UrdfMimic) (mimic : Option Mimic) → Follows order followed mimic → mimic ≡ None → followed ≡ None
+none_leads order None m f e = refl
+none_leads order (Some x) None f e = absurd f
+none_leads order (Some x) (Some m) f e = absurd cc
+
+-- what a body follows, its joint follows
+record Following (order : List Stem) (followed : Option UrdfMimic) (mimic : Mimic) : Type 0 where
+  pub other : UrdfMimic
+  pub is : followed ≡ Some other
+  pub by : IsFollowing order other mimic
+
+following : (order : List Stem) (followed : Option UrdfMimic) (o : Option Mimic) (mimic : Mimic) → Follows order followed o → o ≡ Some mimic → Following order followed mimic
+following order None None mimic f e = absurd cc
+following order None (Some m) mimic f e = absurd f
+following order (Some x) None mimic f e = absurd f
+following order (Some x) (Some m) mimic f e = let same : m ≡ mimic = cc in record { other = x; is = refl; by = subst (IsFollowing order x) same f }
+
+mimic_ordered : (o : Option Mimic) (mimic : Mimic) → IsMimicOrdered o → o ≡ Some mimic → IsMimicOrdered (Some mimic)
+mimic_ordered o mimic h e = subst IsMimicOrdered e h
+
+well_by : (joints : List UrdfJoint) (kind : UrdfKind) (o : Option UrdfMimic) (mimic : UrdfMimic) → FollowsWell joints kind o → o ≡ Some mimic → FollowsWell joints kind (Some mimic)
+well_by joints kind o mimic h e = subst (FollowsWell joints kind) e h
+
+one_entry : (kind : UrdfKind) → (kind ≡ Revolute) ⊎ (kind ≡ Prismatic) → Flat.entry_count (Raw.kind_of kind) ≡ 1
+one_entry kind (inl e) = ap (λ (k : UrdfKind). Flat.entry_count (Raw.kind_of k)) e
+one_entry kind (inr e) = ap (λ (k : UrdfKind). Flat.entry_count (Raw.kind_of k)) e
+
+-- the number of a body that leads is its own, and that of another its master's
+leader_by : (P : ℕ → Type 0) (m : Option Mimic) (i : ℕ) → P i → ((mimic : Mimic) → m ≡ Some mimic → P mimic.master) → P (mimic_or m i)
+leader_by P None i own f = own
+leader_by P (Some mimic) i own f = f mimic refl
+
+leader_of : (P : ℕ → Type 0) (o : Option Body) (i : ℕ) → P i → ((b : Body) (mimic : Mimic) → o ≡ Some b → b.mimic ≡ Some mimic → P mimic.master) →
+    P (option_map_or (λ (b : Body). mimic_or b.mimic i) o i)
+leader_of P None i own f = own
+leader_of P (Some b) i own f = leader_by P b.mimic i own (λ mimic e. f b mimic refl e)
 
 moving : (kind : UrdfKind) → Raw.kind_of kind ≢ Flat.Fixed → 0 < columns_of kind
 moving Fixed h = absurd (h refl)
@@ -169,26 +217,19 @@ moving Continuous h = omega arith
 moving Planar h = omega arith
 moving Floating h = omega arith
 
-no_mimic : {X : Type 0} (m : Option Mimic) (mimic : Mimic) → m ≡ None → m ≡ Some mimic → X
-no_mimic m mimic p q = absurd (let e = sym p ∙ q in cc)
-
-module _ (robot : Robot) (root : UrdfJoint) (stems : List Stem) (bodies : List Body) (o : IsOrder robot stems) (e : AllZip (IsBodyOf robot root) stems bodies) where
-  leader_is : (i : ℕ) → leader_at bodies i ≡ i
-  leader_is zero = refl
-  leader_is (suc k) = leader_found (slice_get bodies k) (suc k) (λ b h. (beside_left (IsBodyOf robot root) stems bodies e k b h).2.is.made.mimic)
-
+module _ (robot : Robot) (root : UrdfJoint) (stems : List Stem) (bodies : List Body) (o : IsOrder robot stems) (e : AllZip (IsBodyOf robot root stems) stems bodies) where
   parent_is_low : (i : ℕ) → 1 ≤ i → parent_at bodies i < i
   parent_is_low zero from = absurd (omega arith)
   parent_is_low (suc k) from =
       low_parent (slice_get bodies k) (suc k) from (λ b h.
-      let p = beside_left (IsBodyOf robot root) stems bodies e k b h in
+      let p = beside_left (IsBodyOf robot root stems) stems bodies e k b h in
       omega (arith, p.2.is.parent, stem_low robot stems k p.0 o p.1))
 
   -- ---- names
-  stem_beside : (i : ℕ) (b : Body) → body_at bodies i ≡ Some b → (stem : Stem) × (0 < i) × (i ≤ length stems) × (stem_of stems i ≡ stem) × IsBodyOf robot root stem b
+  stem_beside : (i : ℕ) (b : Body) → body_at bodies i ≡ Some b → (stem : Stem) × (0 < i) × (i ≤ length stems) × (stem_of stems i ≡ stem) × IsBodyOf robot root stems stem b
   stem_beside zero b h = absurd cc
   stem_beside (suc k) b h =
-      let p = beside_left (IsBodyOf robot root) stems bodies e k b h in
+      let p = beside_left (IsBodyOf robot root stems) stems bodies e k b h in
       let within = slice_get_within stems k p.0 p.1 in
       (p.0, omega arith, omega (arith, within), stem_found stems k p.0 p.1, p.2)
 
@@ -287,86 +328,123 @@ module _ (robot : Robot) (root : UrdfJoint) (stems : List Stem) (bodies : List B
       ]
 
   -- ---- names of entries and columns
-  shared_by : (i j : ℕ) (a b : Body) → i < j → body_at bodies i ≡ Some a → body_at bodies j ≡ Some b → HaveOwnNames root robot.joints stems →
+  shared_by : (i j : ℕ) (a b : Body) → i < j → body_at bodies i ≡ Some a → body_at bodies j ≡ Some b → a.mimic ≡ None → b.mimic ≡ None → HaveOwnNames root robot.joints stems →
       ShareName (Model.kind_of a.joint) a.joint_name (Model.kind_of b.joint) b.joint_name → ⊥
-  shared_by zero j a b less p q own h = absurd cc
-  shared_by (suc k) zero a b less p q own h = absurd cc
-  shared_by (suc k) (suc l) a b less p q own h =
+  shared_by zero j a b less p q leads_a leads_b own h = absurd cc
+  shared_by (suc k) zero a b less p q leads_a leads_b own h = absurd cc
+  shared_by (suc k) (suc l) a b less p q leads_a leads_b own h =
       let s = stem_beside (suc k) a p in
       let t = stem_beside (suc l) b q in
       let x : bearer_of root robot.joints (stem_of stems (suc k)).joint ≡ Some s.4.is.joint = ap (λ (r : Stem). bearer_of root robot.joints r.joint) s.3 ∙ s.4.is.pair.joint_is in
       let y : bearer_of root robot.joints (stem_of stems (suc l)).joint ≡ Some t.4.is.joint = ap (λ (r : Stem). bearer_of root robot.joints r.joint) t.3 ∙ t.4.is.pair.joint_is in
       own k l no_stem (omega arith) (omega (arith, t.2)) (stems_share root robot.joints (stem_of stems (suc k)) (stem_of stems (suc l)) s.4.is.joint t.4.is.joint x y
-      (share_same _ _ _ _ _ _ _ _ s.4.kind s.4.is.made.joint_name t.4.kind t.4.is.made.joint_name h))
+      (record {
+        first_leads = none_leads stems s.4.is.joint.mimic a.mimic s.4.is.follows leads_a;
+        second_leads = none_leads stems t.4.is.joint.mimic b.mimic t.4.is.follows leads_b;
+        share = share_same _ _ _ _ _ _ _ _ s.4.kind s.4.is.made.joint_name t.4.kind t.4.is.made.joint_name h;
+      }))
 
-  own_names : HaveOwnNames root robot.joints stems → (i j : ℕ) (a b : Body) → i ≢ j → body_at bodies i ≡ Some a → body_at bodies j ≡ Some b →
+  own_names : HaveOwnNames root robot.joints stems → (i j : ℕ) (a b : Body) → i ≢ j → body_at bodies i ≡ Some a → body_at bodies j ≡ Some b → a.mimic ≡ None → b.mimic ≡ None →
       ShareName (Model.kind_of a.joint) a.joint_name (Model.kind_of b.joint) b.joint_name → ⊥
-  own_names own i j a b other p q h =
+  own_names own i j a b other p q leads_a leads_b h =
       elim (cases_order i j) [
         | inl same ↦ other same
         | inr apart ↦ elim apart [
-          | inl less ↦ shared_by i j a b less p q own h
-          | inr more ↦ shared_by j i b a more q p own (share_turned _ _ _ _ h)
+          | inl less ↦ shared_by i j a b less p q leads_a leads_b own h
+          | inr more ↦ shared_by j i b a more q p leads_b leads_a own (share_turned _ _ _ _ h)
         ]
       ]
 
-  pub are_bodies : IsRobot robot.links robot.joints → IsAccepted robot root stems → AreBodies bodies
-  are_bodies file accepted =
-      let n = AllZip-long (IsBodyOf robot root) stems bodies e in
-      let columns = AllZip-sum (IsBodyOf robot root) (stem_columns root robot.joints) own_columns (own_is robot root) stems bodies e in
-      let full = AllZip-sum (IsBodyOf robot root) (stem_columns root robot.joints) full_columns (full_is robot root) stems bodies e in
+  -- ---- masters
+  follows_at : (i : ℕ) (body : Body) (mimic : Mimic) (p : body_at bodies i ≡ Some body) → body.mimic ≡ Some mimic → Following stems (stem_beside i body p).4.is.joint.mimic mimic
+  follows_at i body mimic p m = let s = stem_beside i body p in following stems s.4.is.joint.mimic body.mimic mimic s.4.is.follows m
+
+  -- the body with the joint that is followed
+  master_is : (i number : ℕ) (body : Body) (p : body_at bodies i ≡ Some body) → (stem_of stems i).joint ≡ Some number → (master : HasMaster robot.joints number) →
+      (stem_beside i body p).4.is.joint ≡ master.joint
+  master_is i number body p bears master =
+      let s = stem_beside i body p in
+      let named : s.0.joint ≡ Some number = ap (λ (x : Stem). x.joint) (sym s.3) ∙ bears in
+      let is : slice_get robot.joints number ≡ Some s.4.is.joint = sym (ap (bearer_of root robot.joints) named) ∙ s.4.is.pair.joint_is in
+      same_item robot.joints number number s.4.is.joint master.joint refl is master.is
+
+  follows_master : IsRobot robot.links robot.joints → root.mimic ≡ None → (i : ℕ) (body : Body) (mimic : Mimic) → body_at bodies i ≡ Some body → body.mimic ≡ Some mimic →
+      FollowsMaster bodies body mimic
+  follows_master file leads i body mimic p m =
+      let s = stem_beside i body p in
+      let f = follows_at i body mimic p m in
+      let well = well_by robot.joints s.4.is.joint.kind s.4.is.joint.mimic f.other (bearer_well robot root file leads s.0.joint s.4.is.joint s.4.is.pair.joint_is) f.is in
+      let n = AllZip-long (IsBodyOf robot root stems) stems bodies e in
+      let master = body_there bodies mimic.master f.by.from (omega (arith, n, f.by.to)) in
+      let t = stem_beside mimic.master master.0 master.1 in
+      let is = master_is mimic.master f.other.master master.0 master.1 f.by.bears well.1 in
+      record {
+        master = master.0;
+        is = master.1;
+        leads = leads_none stems t.4.is.joint.mimic master.0.mimic t.4.is.follows (ap (λ (j : UrdfJoint). j.mimic) is ∙ well.1.master.leads);
+        entry = ap Flat.entry_count s.4.kind ∙ one_entry s.4.is.joint.kind well.0;
+        master_entry = ap Flat.entry_count t.4.kind ∙ (ap (λ (j : UrdfJoint). Flat.entry_count (Raw.kind_of j.kind)) is ∙ one_entry well.1.joint.kind well.1.master.moves);
+        ordered = mimic_ordered body.mimic mimic s.4.ordered m;
+      }
+
+  pub are_bodies : IsRobot robot.links robot.joints → root.mimic ≡ None → IsAccepted robot root stems → AreBodies bodies
+  are_bodies file leads accepted =
+      let n = AllZip-long (IsBodyOf robot root stems) stems bodies e in
+      let full = AllZip-sum (IsBodyOf robot root stems) (stem_columns root robot.joints) full_columns (full_is robot root stems) stems bodies e in
+      let own = own_few bodies in
       record {
         some = omega (arith, n, o.some);
         few = omega (arith, n, o.count, accepted.links);
-        few_columns = omega (arith, columns, accepted.columns);
+        few_columns = omega (arith, own, full, accepted.columns);
         few_full = omega (arith, full, accepted.columns);
-        columns_within = omega (arith, full, columns);
+        columns_within = own;
         parents = parent_is_low;
-        leads_from = λ i h. omega (arith, leader_is i);
-        leads_to = λ i h. omega (arith, leader_is i);
-        follows = λ i body mimic h m. no_mimic body.mimic mimic (stem_beside i body h).4.is.made.mimic m;
+        leads_from = λ i from. leader_of (λ k. 1 ≤ k) (body_at bodies i) i from (λ b mimic p m. (follows_at i b mimic p m).by.from);
+        leads_to = λ i to. leader_of (λ k. k ≤ length bodies) (body_at bodies i) i to (λ b mimic p m. omega (arith, n, (follows_at i b mimic p m).by.to));
+        follows = follows_master file leads;
         links = λ i a p j b other q same. link_names file i j a b (λ e. other (sym e)) p q (sym same);
         joints = λ i a p own_i j b other q own_j same. joint_names file accepted.root_name i j a b (λ e. other (sym e)) p q own_i own_j (sym same);
-        names = λ i j a b other p q leads_a leads_b. own_names accepted.names i j a b other p q;
-        kept = each-right (IsBodyOf robot root) IsBodyKept (λ stem body b. b.kept) stems bodies e;
+        names = own_names accepted.names;
+        kept = each-right (IsBodyOf robot root stems) IsBodyKept (λ stem body b. b.kept) stems bodies e;
       }
 
-pub built : (robot : Robot) (root : UrdfJoint) (stems : List Stem) (bodies : List Body) (name : List ℕ) → IsOrder robot stems → IsAccepted robot root stems →
-    AllZip (IsBodyOf robot root) stems bodies → name ≡ robot.name → IsBuilt robot root (record { name = name; bodies = bodies })
-built robot root stems bodies name o accepted e n = record {
-  name = n;
+pub are_built : (robot : Robot) (root : UrdfJoint) (stems : List Stem) (bodies : List Body) → IsOrder robot stems → IsAccepted robot root stems →
+    AllZip (IsBodyOf robot root stems) stems bodies → AreBuilt robot root bodies
+are_built robot root stems bodies o accepted e = record {
   order = stems;
   ordered = o;
   accepted = accepted;
-  bodies = each-pair (IsBodyOf robot root) (IsBody robot root) (λ stem body b. b.is) stems bodies e;
+  each = each-pair (IsBodyOf robot root stems) (IsBody robot root stems) (λ stem body b. b.is) stems bodies e;
 }
 
 -- a body made of its link and its joint
-module _ (robot : Robot) (root : UrdfJoint) (stem : Stem) (link : UrdfLink) (joint : UrdfJoint) (pair : IsPair robot root stem link joint) where
-  pub body_there : (r : Result Body TreeFault) → IfOk r (λ body. body.parent ≡ stem.parent) → IfOk r (IsMadeOf link joint) → IfOk r IsBodyKept →
-      IfOk r (λ body. Model.kind_of body.joint ≡ Raw.kind_of joint.kind) → IfOk r (IsBodyOf robot root stem)
-  body_there (Ok body) p m k n = record { is = record { link = link; joint = joint; pair = pair; parent = p; made = m }; kept = k; kind = n }
-  body_there (Err fault) p m k n = tt
+module _ (robot : Robot) (root : UrdfJoint) (order : List Stem) (stem : Stem) (link : UrdfLink) (joint : UrdfJoint) (mimic : Option Mimic) (pair : IsPair robot root stem link joint) where
+  pub body_made : (r : Result Body TreeFault) → Follows order joint.mimic mimic → IsMimicOrdered mimic → IfOk r (λ body. body.parent ≡ stem.parent) → IfOk r (λ body. body.mimic ≡ mimic) →
+      IfOk r (IsMadeOf link joint) → IfOk r IsBodyKept → IfOk r (λ body. Model.kind_of body.joint ≡ Raw.kind_of joint.kind) → IfOk r (IsBodyOf robot root order stem)
+  body_made (Ok body) f h p e m k n = record {
+    is = record { link = link; joint = joint; pair = pair; parent = p; made = m; follows = subst (Follows order joint.mimic) (sym e) f };
+    kept = k;
+    kind = n;
+    ordered = subst IsMimicOrdered (sym e) h;
+  }
+  body_made (Err fault) f h p e m k n = tt
 
   pub refused_by : (r : Result Body TreeFault) → IfErr r (λ fault. (fault ≡ no_memory) ⊎ IsRefusedAt link joint fault) → IfErr r (λ fault. (fault ≡ no_memory) ⊎ IsRefused robot root stem fault)
   refused_by (Ok body) h = tt
   refused_by (Err fault) h = elim h [ inl m ↦ inl m | inr r ↦ inr (record { link = link; joint = joint; pair = pair; refused = r }) ]
 
-pub root_joint_is : (joint : UrdfJoint) (robot : Robot) (root : Option RootKind) (kind : UrdfKind) (name : List ℕ) (at : ℕ) → joint ≡ root_joint kind name at → kind ≡ root_kind root →
-    at ≡ robot.place → joint ≡ root_joint (root_kind root) name robot.place
-root_joint_is joint robot root kind name at e k p = e ∙ λ i. root_joint (k i) name (p i)
-
 -- where the bodies before a place are made and that at the place is refused
-pub refused_there : (robot : Robot) (root : UrdfJoint) (order : List Stem) (k : ℕ) (stem : Stem) (bodies : List Body) (fault : TreeFault) → IsOrder robot order → IsAccepted robot root order →
-    slice_get order k ≡ Some stem → AllZip (IsBodyOf robot root) (take k order) bodies → (fault ≡ no_memory) ⊎ IsRefused robot root stem fault →
+pub refused_there : (robot : Robot) (root : UrdfJoint) (order : List Stem) (k : ℕ) (stem : Stem) (bodies : List Body) (fault : TreeFault) → IsOrder robot order →
+    slice_get order k ≡ Some stem → AllZip (IsBodyOf robot root order) (take k order) bodies → (fault ≡ no_memory) ⊎ IsRefused robot root stem fault →
     (fault ≡ no_memory) ⊎ HasConstantFault robot root fault
-refused_there robot root order k stem bodies fault o accepted h e (inl m) = inl m
-refused_there robot root order k stem bodies fault o accepted h e (inr r) =
-    inr (record { order = order; ordered = o; accepted = accepted; number = k; stem = stem; is = h; before = have_constants robot root (take k order) bodies e; refused = r })
+refused_there robot root order k stem bodies fault o h e (inl m) = inl m
+refused_there robot root order k stem bodies fault o h e (inr r) =
+    inr (record { order = order; ordered = o; number = k; stem = stem; is = h; before = have_constants robot root order (take k order) bodies e; refused = r })
 
 pub one_more : (robot : Robot) (root : UrdfJoint) (order : List Stem) (k : ℕ) (bodies : List Body) (body : Body) (d : Stem) → k < length order →
-    AllZip (IsBodyOf robot root) (take k order) bodies → IsBodyOf robot root (get_or order k d) body → AllZip (IsBodyOf robot root) (take (k + 1) order) (bodies ++ body ∷ [])
-one_more robot root order k bodies body d h e b = rw (add-one, take-suc order k d h) (AllZip-more (IsBodyOf robot root) (take k order) bodies (get_or order k d) body e b)
+    AllZip (IsBodyOf robot root order) (take k order) bodies → IsBodyOf robot root order (get_or order k d) body →
+    AllZip (IsBodyOf robot root order) (take (k + 1) order) (bodies ++ body ∷ [])
+one_more robot root order k bodies body d h e b = rw (add-one, take-suc order k d h) (AllZip-more (IsBodyOf robot root order) (take k order) bodies (get_or order k d) body e b)
 
 -- a refusal that is handed on
 pub handed_on : {A E : Type 0} (P : E → Type 0) (r : Result A E) (x : E) → IsErrAnd r (λ e. e ≡ x) → P x → IfErr r P

@@ -4,10 +4,9 @@ use Rattle.std.specs.List.{Any}
 use denote.Ref.{Bor}
 use Rattle.rb_flat.specs.Joint.{Kind}
 use Rattle.rb_urdf.specs.declared.robot.UrdfJoint.{UrdfJoint}
-use Rattle.rb_body.specs.Raw.{kind_of}
 use Rattle.rb_tree.specs.Names.{names_by, HaveCommon, ShareName}
 use Rattle.rb_tree.specs.declared.order.Stem.{Stem}
-use Rattle.rb_tree.specs.Sizes.{bearer_of, BearersShare, StemsShare}
+use Rattle.rb_tree.specs.Sizes.{bearer_of, JointsShare, BearersShare, StemsShare}
 use Rattle.std.proofs.lemmas.List.{take-append-drop, take-append-le, take_at, append_cancel_left}
 use Rattle.std.proofs.lemmas.Bool.{cases_order}
 
@@ -104,7 +103,7 @@ share_same k k' n n' l l' m m' a b c d h =
     subst S d (subst R c (subst Q b (subst P a h)))
 
 pub stems_share : (root : UrdfJoint) (joints : List UrdfJoint) (s t : Stem) (x y : UrdfJoint) → bearer_of root joints s.joint ≡ Some x → bearer_of root joints t.joint ≡ Some y →
-    ShareName (kind_of x.kind) x.name (kind_of y.kind) y.name → StemsShare root joints s t
+    JointsShare x y → StemsShare root joints s t
 unfolding StemsShare
 stems_share root joints s t x y e f h =
     let P : Option UrdfJoint → Type 0 = λ b. BearersShare (bearer_of root joints s.joint) b in

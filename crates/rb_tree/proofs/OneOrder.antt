@@ -1,4 +1,4 @@
--- A robot has at most one order, and none with a fault.
+-- A robot has at most one order, and none with a fault of its links and joints.
 use Rattle.std.proofs.Common.{◌≡◌, ◌<◌, ◌≤◌, ◌+◌, ◌⊎◌, ℕ, List, Some, None, length, get_or, sym, ◌∙◌, ap, subst, arith, inl, inr}
 use Rattle.std.proofs.lemmas.Option.{slice_get_within, get_or_from_slice_get}
 use Rattle.std.proofs.lemmas.List.Sums.{sum_by-take-le}
@@ -11,13 +11,10 @@ use Rattle.rb_urdf.specs.declared.robot.UrdfJoint.{UrdfJoint}
 use Rattle.rb_urdf.specs.Robot.{Robot, IsRobot, IsJointKept}
 use Rattle.rb_tree.specs.declared.sizes.TheConstants.{MAX_LINKS, MAX_COLUMNS}
 use Rattle.rb_tree.specs.declared.order.Stem.{Stem}
-use Rattle.rb_tree.specs.Order.{stem_of, no_stem, Reaches, IsOrder, HasCycle, HasNameTwice, HasTooManyColumns, IsAccepted, IsFirstFault, HasOrderFault}
-use Rattle.rb_tree.specs.Sizes.{IsBuildable, stem_columns, HasUnbuilt, HasOwnRootName, IsNamedAsRoot, StemsShare, HaveOwnNames, SharesName}
+use Rattle.rb_tree.specs.Order.{stem_of, no_stem, Reaches, IsOrder, HasCycle, HasNameTwice, HasTooManyColumns}
+use Rattle.rb_tree.specs.Sizes.{stem_columns, HasOwnRootName, IsNamedAsRoot, StemsShare, HaveOwnNames, SharesName}
 use Rattle.rb_tree.specs.Roots.{IsChild, HaveOneParent, HasTwoParents, HasNoRoot, HasTwoRoots, HasRootBelow}
 use Rattle.rb_tree.specs.Grow.{stem_at, parent_link, child_link, link_of, parent_of, joint_of, HasLink, IsPart, IsPlaced, IsGrown}
-use Rattle.rb_tree.specs.declared.faults.TreeFault.{TreeFault}
-use Rattle.rb_tree.specs.declared.faults.TreeKind.{TreeKind}
-use Rattle.rb_tree.specs.declared.faults.TreeKind.TheVariants.{Unbuilt, TooManyLinks, TwoParents, NoRoot, TwoRoots, Cycle, RootName, NameTwice, TooManyColumns, AngleRange, ZeroAxis, Size, Memory}
 use Rattle.rb_tree.specs.Faults.{IsLinkPlace}
 use Rattle.rb_tree.proofs.Stems.{read_same, joint_at, down_read, down_below}
 use Rattle.rb_tree.proofs.Ways.{contains_at}
@@ -110,11 +107,6 @@ one_order robot a b kept oa ob =
     ext_get_or no_stem a b (count_a ∙ sym count_b) (λ k ka.
     stems_agree robot root_a (stem_of b 1).link a b ga gb same k ka (omega arith) (agrees n (omega arith) k (omega arith)))
 
-pub no_unbuilt : (robot : Robot) (at : ℕ) → All IsBuildable robot.joints → HasUnbuilt robot.joints at → ⊥
-no_unbuilt robot at built h =
-    let within = slice_get_within robot.joints h.number h.joint h.is in
-    h.unbuilt (subst IsBuildable (get_or_from_slice_get robot.joints h.number h.joint h.joint h.is) (built h.number h.joint within))
-
 pub no_too_many_links : (robot : Robot) (at : ℕ) → length robot.links ≤ MAX_LINKS → IsLinkPlace robot.links MAX_LINKS at → ⊥
 no_too_many_links robot at few h = let within = slice_get_within robot.links MAX_LINKS h.link h.is in omega arith
 
@@ -157,7 +149,7 @@ module _ (robot : Robot) (stems : List Stem) (kept : IsRobot robot.links robot.j
     ];
   }
 
-  no_two_roots : (at : ℕ) → HasTwoRoots robot at → ⊥
+  pub no_two_roots : (at : ℕ) → HasTwoRoots robot at → ⊥
   no_two_roots at h =
       let within = slice_get_within robot.links h.number h.is.link h.is.is in
       let less = h.second.within in
@@ -176,32 +168,13 @@ module _ (robot : Robot) (stems : List Stem) (kept : IsRobot robot.links robot.j
   same_order others other = one_order robot others stems kept other order
 
   module _ (root : UrdfJoint) where
-    no_name_twice : (at : ℕ) → HaveOwnNames root robot.joints stems → HasNameTwice robot root at → ⊥
+    pub no_name_twice : (at : ℕ) → HaveOwnNames root robot.joints stems → HasNameTwice robot root at → ⊥
     no_name_twice at own h =
         let P : List Stem → Type 0 = λ xs. HaveOwnNames root robot.joints xs in
         no_shared_name root robot.joints h.stems at (subst P (sym (same_order h.stems h.order)) own) h.shares
 
-    no_too_many_columns : (at : ℕ) → sum_by (stem_columns root robot.joints) stems ≤ MAX_COLUMNS → HasTooManyColumns robot root at → ⊥
+    pub no_too_many_columns : (at : ℕ) → sum_by (stem_columns root robot.joints) stems ≤ MAX_COLUMNS → HasTooManyColumns robot root at → ⊥
     no_too_many_columns at few h =
         let total : sum_by (stem_columns root robot.joints) h.stems ≡ sum_by (stem_columns root robot.joints) stems = ap (sum_by (stem_columns root robot.joints)) (same_order h.stems h.order) in
         let passed = h.pass.passed in
         omega (arith, total, sum_by-take-le (stem_columns root robot.joints) h.stems (h.pass.number + 1))
-
-    no_fault : (kind : TreeKind) (at : ℕ) → IsAccepted robot root stems → IsFirstFault robot root kind at → ⊥
-    no_fault Unbuilt at a h = no_unbuilt robot at a.built h
-    no_fault TooManyLinks at a h = no_too_many_links robot at a.links h.1
-    no_fault TwoParents at a h = no_two_parents robot at order.one_parent h.1
-    no_fault NoRoot at a h = no_no_root h.1
-    no_fault TwoRoots at a h = no_two_roots at h.1
-    no_fault Cycle at a h = no_cycle at h.1
-    no_fault RootName at a h = no_root_name root robot.joints at a.root_name h.1.named
-    no_fault NameTwice at a h = no_name_twice at a.names h.1
-    no_fault TooManyColumns at a h = no_too_many_columns at a.columns h.1
-    no_fault AngleRange at a h = h
-    no_fault ZeroAxis at a h = h
-    no_fault Size at a h = h
-    no_fault Memory at a h = h
-
-pub fault_excludes : (robot : Robot) (root : UrdfJoint) (fault : TreeFault) (stems : List Stem) → IsRobot robot.links robot.joints → HasOrderFault robot root fault →
-    IsOrder robot stems → IsAccepted robot root stems → ⊥
-fault_excludes robot root fault stems kept h order accepted = no_fault robot stems kept order root fault.kind fault.at accepted h.1

@@ -10,17 +10,17 @@ use Rattle.rb_flat.specs.Shape.{ParentsComeFirst, ColumnsFit, MimicsFit}
 use Rattle.rb_flat.specs.Choice.{Choice, IsChoice}
 use Rattle.rb_joint.specs.declared.any.AnyJoint.{AnyJoint}
 use Rattle.rb_joint.specs.declared.any.AnyJoint.TheVariants as Variant
-use Rattle.rb_urdf.specs.declared.robot.UrdfJoint.{UrdfJoint}
 use Rattle.rb_urdf.specs.Numbers.{zeros}
 use Rattle.rb_urdf.specs.Robot.{Robot, IsRobot}
 use Rattle.rb_tree.specs.declared.faults.TreeFault.{TreeFault}
 use Rattle.rb_tree.specs.declared.order.Stem.{Stem}
 use Rattle.rb_tree.specs.declared.robot.Body.{Body}
-use Rattle.rb_tree.specs.Order.{IsOrder, IsAccepted, HasOrderFault}
+use Rattle.rb_tree.specs.Order.{IsOrder}
 use Rattle.rb_tree.specs.Columns.{own_columns, parent_at, columns_at, nearest_column}
 use Rattle.rb_tree.specs.Robot.{Tree, AreBodies}
 use Rattle.rb_tree.specs.Parts.{root_kind, root_joint, joint_made}
-use Rattle.rb_tree.specs.Build.{IsBuilt, HasFault}
+use Rattle.rb_tree.specs.Build.{Source, IsBuilt}
+use Rattle.rb_tree.specs.Refusals.{HasFault}
 use Rattle.rb_tree.specs.Shape.{shape_of, brackets_of}
 use Rattle.rb_tree.specs.State.{Row, IsRow, state_brackets}
 
@@ -29,27 +29,19 @@ use Rattle.rb_tree.specs.State.{Row, IsRow, state_brackets}
 abbrev pub HasOneOrder : Type 0
 HasOneOrder = (robot : Robot) (a b : List Stem) → IsRobot robot.links robot.joints → IsOrder robot a → IsOrder robot b → a ≡ b
 
--- with a fault it has no order, or one that is not accepted
-abbrev pub FaultExcludesOrder : Type 0
-FaultExcludesOrder = (robot : Robot) (root : UrdfJoint) (fault : TreeFault) (stems : List Stem) → IsRobot robot.links robot.joints → HasOrderFault robot root fault →
-    IsOrder robot stems → IsAccepted robot root stems → ⊥
-
--- it has at most one fault
-abbrev pub HasOneFault : Type 0
-HasOneFault = (robot : Robot) (root : UrdfJoint) (a b : TreeFault) → IsRobot robot.links robot.joints → HasOrderFault robot root a → HasOrderFault robot root b → a ≡ b
-
 -- ---- robots
--- a robot file gives at most one robot
+-- a source gives at most one robot
 abbrev pub IsBuiltOnce : Type 0
-IsBuiltOnce = (robot : Robot) (root : UrdfJoint) (a b : Tree) → IsRobot robot.links robot.joints → IsBuilt robot root a → IsBuilt robot root b → a ≡ b
+IsBuiltOnce = (source : Source) (a b : Tree) → IsRobot source.urdf.links source.urdf.joints → IsBuilt source a → IsBuilt source b → a ≡ b
 
 -- the order of the refusals and their places leave at most one fault
-abbrev pub HasOneFaultInAll : Type 0
-HasOneFaultInAll = (robot : Robot) (root : UrdfJoint) (a b : TreeFault) → IsRobot robot.links robot.joints → HasFault robot root a → HasFault robot root b → a ≡ b
+abbrev pub HasOneFault : Type 0
+HasOneFault = (source : Source) (a b : TreeFault) → IsRobot source.urdf.links source.urdf.joints → HasFault source a → HasFault source b → a ≡ b
 
--- a robot file with a fault gives no robot
+-- a source with a fault gives no robot
 abbrev pub FaultExcludesRobot : Type 0
-FaultExcludesRobot = (robot : Robot) (root : UrdfJoint) (fault : TreeFault) (tree : Tree) → IsRobot robot.links robot.joints → HasFault robot root fault → IsBuilt robot root tree → ⊥
+FaultExcludesRobot =
+    (source : Source) (fault : TreeFault) (tree : Tree) → IsRobot source.urdf.links source.urdf.joints → HasFault source fault → IsBuilt source tree → ⊥
 
 -- the frame of the world
 abbrev pub still : Frame Interval

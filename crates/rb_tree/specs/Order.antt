@@ -1,17 +1,13 @@
 -- The order of the bodies of a robot, and the first thing that is wrong where it has none.
 use Rattle.std.specs.Prelude.{◌≡◌, ◌≢◌, ◌<◌, ◌≤◌, ◌+◌, ℕ, zero, suc, List, [], ◌∷◌, length, None, Some, slice_get, slice_index_or}
-use Rattle.std.specs.List.{All, Contains, sum_by}
+use Rattle.std.specs.List.{Contains, sum_by}
 use Rattle.rb_urdf.specs.declared.robot.UrdfJoint.{UrdfJoint}
 use Rattle.rb_urdf.specs.Robot.{Robot}
-use Rattle.rb_tree.specs.declared.faults.TreeFault.{TreeFault}
-use Rattle.rb_tree.specs.declared.faults.TreeKind.{TreeKind}
-use Rattle.rb_tree.specs.declared.faults.TreeKind.TheVariants.{Unbuilt, TooManyLinks, TwoParents, NoRoot, TwoRoots, Cycle, RootName, NameTwice, TooManyColumns, AngleRange, ZeroAxis, Size, Memory}
-use Rattle.rb_tree.specs.declared.faults.WhichFile.TheVariants.{Urdf}
 use Rattle.rb_tree.specs.declared.order.Stem.{Stem}
 use Rattle.rb_tree.specs.declared.sizes.TheConstants.{MAX_LINKS, MAX_COLUMNS}
 use Rattle.rb_tree.specs.Faults.{IsLinkPlace}
-use Rattle.rb_tree.specs.Sizes.{IsBuildable, HasUnbuilt, stem_columns, PassColumns, HasOwnRootName, IsNamedAsRoot, HaveOwnNames, SharesName}
-use Rattle.rb_tree.specs.Roots.{IsChild, HaveOneParent, HasTwoParents, HasNoRoot, HasRootBelow, HasTwoRoots}
+use Rattle.rb_tree.specs.Sizes.{stem_columns, PassColumns, HasOwnRootName, HaveOwnNames, SharesName}
+use Rattle.rb_tree.specs.Roots.{IsChild, HaveOneParent, HasRootBelow}
 
 -- the joints lead, one behind the other, from one link to another
 abbrev pub Leads : List UrdfJoint → ℕ → List UrdfJoint → ℕ → Type 0
@@ -72,23 +68,12 @@ pub record IsOrder (robot : Robot) (stems : List Stem) : Type 0 where
       (stem_of stems a).joint ≡ Some first → (stem_of stems b).joint ≡ Some second → first < second
 
 -- ---- what is asked besides
--- each joint is built; there are no more links, and no more columns in all, than there may be; and each entry and column has a name of its own
+-- there are no more links, and no more columns in all, than there may be; and each entry and column has a name of its own
 pub record IsAccepted (robot : Robot) (root : UrdfJoint) (stems : List Stem) : Type 0 where
-  pub built : All IsBuildable robot.joints
   pub links : length robot.links ≤ MAX_LINKS
   pub root_name : HasOwnRootName root robot.joints
   pub names : HaveOwnNames root robot.joints stems
   pub columns : sum_by (stem_columns root robot.joints) stems ≤ MAX_COLUMNS
-
--- each joint is built, and there are not too many links
-pub record IsSmall (robot : Robot) : Type 0 where
-  pub built : All IsBuildable robot.joints
-  pub few : length robot.links ≤ MAX_LINKS
-
--- and no link is the child of two joints
-pub record IsForest (robot : Robot) : Type 0 where
-  pub small : IsSmall robot
-  pub one_parent : HaveOneParent robot.joints
 
 -- ---- faults
 -- the first link that no way of joints reaches from the root
@@ -100,43 +85,14 @@ pub record HasCycle (robot : Robot) (at : ℕ) : Type 0 where
   pub apart : Reaches robot.joints root number → ⊥
   pub first : (link : ℕ) → link < number → Reaches robot.joints root link
 
--- there is an order, and a root's joint with columns has the name of another joint
-pub record HasRootName (robot : Robot) (root : UrdfJoint) (at : ℕ) : Type 0 where
-  pub stems : List Stem
-  pub order : IsOrder robot stems
-  pub named : IsNamedAsRoot root robot.joints at
-
 -- in the order of the bodies two entries, or two columns, have one name
 pub record HasNameTwice (robot : Robot) (root : UrdfJoint) (at : ℕ) : Type 0 where
   pub stems : List Stem
   pub order : IsOrder robot stems
-  pub root_name : HasOwnRootName root robot.joints
   pub shares : SharesName root robot.joints stems at
 
 -- in the order of the bodies there are too many columns
 pub record HasTooManyColumns (robot : Robot) (root : UrdfJoint) (at : ℕ) : Type 0 where
   pub stems : List Stem
   pub order : IsOrder robot stems
-  pub root_name : HasOwnRootName root robot.joints
-  pub names : HaveOwnNames root robot.joints stems
   pub pass : PassColumns root robot.joints stems at
-
--- the first fault in the order of the kinds
-abbrev pub IsFirstFault : Robot → UrdfJoint → TreeKind → ℕ → Type 0
-IsFirstFault robot root Unbuilt at = HasUnbuilt robot.joints at
-IsFirstFault robot root TooManyLinks at = All IsBuildable robot.joints × IsLinkPlace robot.links MAX_LINKS at
-IsFirstFault robot root TwoParents at = IsSmall robot × HasTwoParents robot.joints at
-IsFirstFault robot root NoRoot at = IsForest robot × HasNoRoot robot × (at ≡ robot.place)
-IsFirstFault robot root TwoRoots at = IsForest robot × HasTwoRoots robot at
-IsFirstFault robot root Cycle at = IsForest robot × HasCycle robot at
-IsFirstFault robot root RootName at = IsForest robot × HasRootName robot root at
-IsFirstFault robot root NameTwice at = IsForest robot × HasNameTwice robot root at
-IsFirstFault robot root TooManyColumns at = IsForest robot × HasTooManyColumns robot root at
-IsFirstFault robot root AngleRange at = ⊥
-IsFirstFault robot root ZeroAxis at = ⊥
-IsFirstFault robot root Size at = ⊥
-IsFirstFault robot root Memory at = ⊥
-
--- why a robot whose root this joint bears has no order of bodies, or too many of something, or a name twice
-abbrev pub HasOrderFault : Robot → UrdfJoint → TreeFault → Type 0
-HasOrderFault robot root fault = (fault.file ≡ Urdf) × IsFirstFault robot root fault.kind fault.at

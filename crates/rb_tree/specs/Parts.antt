@@ -1,5 +1,6 @@
 -- What a link and the joint that bears it give a body, or why they are refused.
-use Rattle.std.specs.Prelude.{◌≡◌, ◌⊎◌, ℕ, List, codes, Option, None, Some, Result, Ok, Err, IsOk}
+use Rattle.std.specs.Prelude.{◌≡◌, ◌⊎◌, ◌+◌, ◌==◌, ℕ, Bool, if◌then◌else◌, List, [], ◌∷◌, codes, find, bytes_eq, Option, None, Some, Result, Ok, Err, IsOk}
+use Rattle.std.specs.List.{list_any}
 use Rattle.rb_num.specs.Interval.{Interval}
 use Rattle.rb_frac.specs.Spatial.{BodyInertia}
 use Rattle.rb_result.specs.Steps.{placed}
@@ -12,6 +13,7 @@ use Rattle.rb_urdf.specs.declared.robot.UrdfLink.{UrdfLink}
 use Rattle.rb_urdf.specs.declared.robot.UrdfJoint.{UrdfJoint}
 use Rattle.rb_urdf.specs.Numbers.{zeros}
 use Rattle.rb_urdf.specs.Robot.{Robot}
+use Rattle.rb_srdf.specs.declared.srdf.Virtual.{Virtual}
 use Rattle.rb_body.specs.declared.faults.BodyFault.{BodyFault}
 use Rattle.rb_body.specs.declared.faults.BodyFault.TheVariants as Why
 use Rattle.rb_body.specs.declared.raw.LinkRaw.{LinkRaw}
@@ -67,9 +69,25 @@ root_joint kind name at = record {
   mimic = None;
 }
 
--- the joint that bears the root of a robot
-abbrev pub root_of : Robot → Option RootKind → UrdfJoint
-root_of robot root = root_joint (root_kind root) (codes "root_joint") robot.place
+-- the names of the links, the first of which has this number, that are the child of no joint
+unfoldable pub roots_from : List UrdfJoint → ℕ → List UrdfLink → List (List ℕ)
+roots_from joints number [] = []
+roots_from joints number (link ∷ links) =
+    if list_any (λ joint. joint.child == number) joints then roots_from joints (number + 1) links else link.name ∷ roots_from joints (number + 1) links
+
+-- a virtual joint bears a root
+unfoldable pub bears_root : Robot → Virtual → Bool
+bears_root robot virtual = list_any (bytes_eq virtual.child) (roots_from robot.joints 0 robot.links)
+
+-- the joint at this place that a virtual joint is, or a fixed one where there is none
+abbrev pub root_by : ℕ → Option Virtual → UrdfJoint
+root_by at None = root_joint Fixed (codes "root_joint") at
+root_by at (Some virtual) = root_joint (root_kind (Some virtual.kind)) virtual.name at
+
+-- the joint that bears the root: of the kind that is asked for, else the first virtual joint that bears the root, else fixed
+unfoldable pub root_of : Robot → List Virtual → Option RootKind → UrdfJoint
+root_of robot virtuals (Some kind) = root_joint (root_kind (Some kind)) (codes "root_joint") robot.place
+root_of robot virtuals None = root_by robot.place (find (bears_root robot) virtuals)
 
 -- a body has the names, the brackets and the constants of its link and its joint
 pub record IsMadeOf (link : UrdfLink) (joint : UrdfJoint) (body : Body) : Type 0 where
@@ -78,7 +96,6 @@ pub record IsMadeOf (link : UrdfLink) (joint : UrdfJoint) (body : Body) : Type 0
   pub inertia : inertia_made link ≡ Ok body.inertia
   pub joint_name : body.joint_name ≡ joint.name
   pub model : joint_made joint ≡ Ok (body.joint, body.joint_raw)
-  pub mimic : body.mimic ≡ None
 
 -- the constants of the joint are refused, or where they are not, those of the link
 abbrev pub IsRefusedAt : UrdfLink → UrdfJoint → TreeFault → Type 0

@@ -1,13 +1,14 @@
 -- What contracts see of a robot, and what each robot keeps.
 use Rattle.std.specs.Prelude.{◌≡◌, ◌≢◌, ◌⊎◌, ℕ, ◌<◌, ◌≤◌, List, length, None, Some, Ok}
 use Rattle.std.specs.List.{AllByRecursion}
+use Rattle.std.specs.List.Sorted.{IsStrictlyIncreasing}
 use Rattle.rb_num.specs.Interval.{zero_interval}
 use Rattle.rb_spatial.specs.Vectors.{vector_of}
 use Rattle.rb_trig.specs.Axis.{MakesUnit}
-use Rattle.rb_flat.specs.Joint.{entry_count}
 use Rattle.rb_flat.specs.Joint as Kinds
-use Rattle.rb_flat.specs.Choice.{MimicBrackets, LinkOrdered, JointOrdered, MimicOrdered}
+use Rattle.rb_flat.specs.Choice.{MimicBrackets, IsOrdered, LinkOrdered, JointOrdered, MimicOrdered}
 use Rattle.rb_joint.specs.Any.{kind_of}
+use Rattle.rb_tags.specs.declared.tag.TheConstants.{MAX_TAGS}
 use Rattle.rb_urdf.specs.Numbers.{zeros}
 use Rattle.rb_body.specs.declared.raw.JointRaw.{JointRaw}
 use Rattle.rb_body.specs.Raw.{HasAxis, link_brackets, joint_brackets}
@@ -16,14 +17,19 @@ use Rattle.rb_body.specs.Joint.{joint_by}
 use Rattle.rb_tree.specs.declared.robot.Body.{Body}
 use Rattle.rb_tree.specs.declared.robot.Mimic.{Mimic}
 use Rattle.rb_tree.specs.declared.columns.Start.{Start}
+use Rattle.rb_tree.specs.declared.groups.BodyGroup.{BodyGroup}
+use Rattle.rb_tree.specs.declared.states.Entry.{Entry}
+use Rattle.rb_tree.specs.declared.states.NamedState.{NamedState}
 use Rattle.rb_tree.specs.declared.sizes.TheConstants.{MAX_LINKS, MAX_COLUMNS}
 use Rattle.rb_tree.specs.Names.{ShareName}
-use Rattle.rb_tree.specs.Columns.{body_at, parent_at, leader_at, full_count, column_count, owners_from, AreUps, AreStarts}
+use Rattle.rb_tree.specs.Columns.{body_at, parent_at, leader_at, full_count, column_count, entry_count, owners_from, AreUps, AreStarts}
 
--- its name, and its bodies from body 1 on
+-- its name, its bodies from body 1 on, and its groups and states in file order
 pub record Tree : Type 0 where
   pub name : List ℕ
   pub bodies : List Body
+  pub groups : List BodyGroup
+  pub states : List NamedState
 
 -- there is a body of this number
 pub record HasBody (tree : Tree) (i : ℕ) : Type 0 where
@@ -77,8 +83,8 @@ pub record FollowsMaster (bodies : List Body) (body : Body) (mimic : Mimic) : Ty
   pub master : Body
   pub is : body_at bodies mimic.master ≡ Some master
   pub leads : master.mimic ≡ None
-  pub entry : entry_count (kind_of body.joint) ≡ 1
-  pub master_entry : entry_count (kind_of master.joint) ≡ 1
+  pub entry : Kinds.entry_count (kind_of body.joint) ≡ 1
+  pub master_entry : Kinds.entry_count (kind_of master.joint) ≡ 1
   pub ordered : MimicOrdered (mimic_brackets mimic)
 
 -- ---- robots
@@ -98,9 +104,25 @@ pub record AreBodies (bodies : List Body) : Type 0 where
   pub names : HaveOwnNames bodies
   pub kept : AllByRecursion IsBodyKept bodies
 
--- the bodies, where their columns begin, the bodies of the columns, and the columns upward
-pub record IsRobot (bodies : List Body) (starts : List Start) (owners ups : List ℕ) : Type 0 where
-  pub bodies_kept : AreBodies bodies
-  pub starts_are : AreStarts bodies starts
-  pub owners_are : owners ≡ owners_from 1 bodies
-  pub ups_are : AreUps bodies ups
+-- the bodies of a group are there, in ascending order
+pub record IsGroupKept (bodies : List Body) (group : BodyGroup) : Type 0 where
+  pub there : AllByRecursion (λ i. (1 ≤ i) × (i ≤ length bodies)) group.bodies
+  pub ascending : IsStrictlyIncreasing group.bodies
+
+-- an entry of a state is there, and the ends of its bracket are in order
+pub record IsEntryKept (bodies : List Body) (entry : Entry) : Type 0 where
+  pub there : entry.place < entry_count bodies
+  pub ordered : IsOrdered entry.value
+
+abbrev pub IsStateKept : List Body → NamedState → Type 0
+IsStateKept bodies state = AllByRecursion (IsEntryKept bodies) state.entries
+
+-- the bodies, where their columns begin, the bodies of the columns, and the columns upward; groups and states
+pub record IsRobot (tree : Tree) (starts : List Start) (owners ups : List ℕ) : Type 0 where
+  pub bodies_kept : AreBodies tree.bodies
+  pub groups_kept : AllByRecursion (IsGroupKept tree.bodies) tree.groups
+  pub few_groups : length tree.groups ≤ MAX_TAGS
+  pub states_kept : AllByRecursion (IsStateKept tree.bodies) tree.states
+  pub starts_are : AreStarts tree.bodies starts
+  pub owners_are : owners ≡ owners_from 1 tree.bodies
+  pub ups_are : AreUps tree.bodies ups

@@ -1,4 +1,4 @@
--- Which joints are built, how many columns they have and which names these have, and the limits of a robot.
+-- How many columns joints have, which names these have, and the limits of a robot.
 use Rattle.std.specs.Prelude.{◌≡◌, ◌≢◌, ◌<◌, ◌≤◌, ◌+◌, ℕ, List, take, Option, None, Some, slice_get}
 use Rattle.std.specs.List.{All, AllPairs, Any, sum_by}
 use Rattle.rb_urdf.specs.declared.robot.UrdfKind.{UrdfKind}
@@ -8,19 +8,6 @@ use Rattle.rb_body.specs.Raw.{kind_of}
 use Rattle.rb_tree.specs.declared.order.Stem.{Stem}
 use Rattle.rb_tree.specs.declared.sizes.TheConstants.{MAX_COLUMNS}
 use Rattle.rb_tree.specs.Names.{ShareName}
-
--- a joint that follows no other
-abbrev pub IsBuildable : UrdfJoint → Type 0
-IsBuildable joint = joint.mimic ≡ None
-
--- the first joint that is not built
-pub record HasUnbuilt (joints : List UrdfJoint) (at : ℕ) : Type 0 where
-  pub number : ℕ
-  pub joint : UrdfJoint
-  pub is : slice_get joints number ≡ Some joint
-  pub place : at ≡ joint.place
-  pub unbuilt : IsBuildable joint → ⊥
-  pub first : All IsBuildable (take number joints)
 
 -- how many columns of a Jacobian a joint of this kind has
 abbrev pub columns_of : UrdfKind → ℕ
@@ -69,9 +56,15 @@ pub record IsNamedAsRoot (root : UrdfJoint) (joints : List UrdfJoint) (at : ℕ)
   pub name : joint.name ≡ root.name
   pub place : at ≡ joint.place
 
--- the joints of two bodies have a name of entries in common, or of columns
+-- two joints have a name of entries in common, or of columns; one that follows another has none of its own
+pub record JointsShare (a b : UrdfJoint) : Type 0 where
+  pub first_leads : a.mimic ≡ None
+  pub second_leads : b.mimic ≡ None
+  pub share : ShareName (kind_of a.kind) a.name (kind_of b.kind) b.name
+
+-- the joints of two bodies have
 abbrev pub BearersShare : Option UrdfJoint → Option UrdfJoint → Type 0
-BearersShare (Some a) (Some b) = ShareName (kind_of a.kind) a.name (kind_of b.kind) b.name
+BearersShare (Some a) (Some b) = JointsShare a b
 BearersShare _ _ = ⊥
 
 unfoldable pub StemsShare : UrdfJoint → List UrdfJoint → Stem → Stem → Type 0

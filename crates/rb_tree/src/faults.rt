@@ -9,8 +9,10 @@ use std::fmt;
 /// What is wrong with the tree of a robot. The place is that of the element that each kind names.
 #[derive(Clone, Copy, Debug, PartialEq, Eq)]
 pub enum TreeKind {
-    /// A joint follows another.
-    Unbuilt,
+    /// The robot of the groups and states has another name.
+    OtherRobot,
+    /// A virtual joint bears no link, or a group or a state names no link and no joint.
+    UnknownName,
     /// There are more than `MAX_LINKS` links: the first behind these.
     TooManyLinks,
     /// A joint's child is the child of an earlier joint.
@@ -33,6 +35,10 @@ pub enum TreeKind {
     ZeroAxis,
     /// A number is too large.
     Size,
+    /// The base of a chain is neither its tip nor above it.
+    BadChain,
+    /// A state gives a joint another count of numbers than its kind takes.
+    StateValues,
     /// For want of memory: the file `Urdf`, at 0.
     Memory,
 }
@@ -44,7 +50,8 @@ impl TreeKind {
         ensures short { length result.now ≤ 14 }
     {
         match self {
-            TreeKind::Unbuilt => "Unbuilt",
+            TreeKind::OtherRobot => "OtherRobot",
+            TreeKind::UnknownName => "UnknownName",
             TreeKind::TooManyLinks => "TooManyLinks",
             TreeKind::TwoParents => "TwoParents",
             TreeKind::NoRoot => "NoRoot",
@@ -56,6 +63,8 @@ impl TreeKind {
             TreeKind::AngleRange => "AngleRange",
             TreeKind::ZeroAxis => "ZeroAxis",
             TreeKind::Size => "Size",
+            TreeKind::BadChain => "BadChain",
+            TreeKind::StateValues => "StateValues",
             TreeKind::Memory => "Memory",
         }
     }
@@ -74,7 +83,10 @@ impl Error for TreeKind {}
 /// The file that a fault is in.
 #[derive(Clone, Copy, Debug, PartialEq, Eq)]
 pub enum WhichFile {
+    /// That of links and joints.
     Urdf,
+    /// That of groups, states and virtual joints.
+    Srdf,
 }
 
 impl WhichFile {
@@ -84,6 +96,7 @@ impl WhichFile {
     {
         match self {
             WhichFile::Urdf => "urdf",
+            WhichFile::Srdf => "srdf",
         }
     }
 }
@@ -115,15 +128,20 @@ impl fmt::Display for TreeFault {
 
 impl Error for TreeFault {}
 
+impl TreeFault {
+    /// A fault of a kind in a file, at a place.
+    pub(crate) fn new(file: WhichFile, kind: TreeKind, at: u64) -> Self
+        ensures { result ≡ record { kind = kind; file = file; at = at } }
+    {
+        TreeFault { kind, file, at }
+    }
+}
+
 /// A fault of the robot's own file.
 pub(crate) fn fault(kind: TreeKind, at: u64) -> TreeFault
     ensures { result ≡ record { kind = kind; file = Urdf; at = at } }
 {
-    TreeFault {
-        kind,
-        file: WhichFile::Urdf,
-        at,
-    }
+    TreeFault::new(WhichFile::Urdf, kind, at)
 }
 
 impl<T: Drop> From<AllocFailed<T>> for TreeFault {

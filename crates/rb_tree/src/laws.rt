@@ -1,4 +1,4 @@
-ghost use Rattle.rb_tree.specs.Laws.{HasOneOrder, HasOneFault, FaultExcludesOrder, IsBuiltOnce, HasOneFaultInAll, FaultExcludesRobot, RootStandsAtOrigin, ParentsFitShape, ColumnsFitShape, MimicsFitShape, HasChoiceInState, WorldHasNoColumn, BodyHasItsLast, BodyHasItsParents};
+ghost use Rattle.rb_tree.specs.Laws.{HasOneOrder, IsBuiltOnce, HasOneFault, FaultExcludesRobot, RootStandsAtOrigin, ParentsFitShape, ColumnsFitShape, MimicsFitShape, HasChoiceInState, WorldHasNoColumn, BodyHasItsLast, BodyHasItsParents};
 ghost use Rattle.rb_tree.specs.Robot.{Tree};
 ghost use Rattle.rb_tree.specs.State.{Row};
 ghost use Rattle.rb_tree.specs.Places.{PlacesHaveOneAnswer};
@@ -8,20 +8,10 @@ pub fn one_order_law()
     ensures { HasOneOrder }
 {}
 
-/// The order of the refusals and their places leave at most one fault.
-pub fn one_fault_law()
-    ensures { HasOneFault }
-{}
-
-/// A robot with a fault has no order that is accepted.
-pub fn fault_excludes_order_law()
-    ensures { FaultExcludesOrder }
-{}
-
-/// A robot file gives at most one robot, or at most one fault, and not both.
+/// What a robot is built from gives at most one robot, or at most one fault, and not both.
 pub fn one_answer_law()
     ensures robot { IsBuiltOnce }
-    ensures fault { HasOneFaultInAll }
+    ensures fault { HasOneFault }
     ensures either { FaultExcludesRobot }
 {}
 

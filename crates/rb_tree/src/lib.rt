@@ -2,9 +2,12 @@
 //! states, the numbers of one row.
 #![tactic(auto)]
 
+mod bearers;
+mod bearing;
 mod build;
 mod columns;
 mod faults;
+mod groups;
 mod grow;
 pub mod laws;
 mod names;
@@ -13,8 +16,10 @@ mod parts;
 mod places;
 mod robot;
 mod roots;
+mod semantics;
 mod sizes;
 mod state;
+mod states;
 
 pub use faults::{TreeFault, TreeKind, WhichFile};
 pub use names::{column_suffixes, entry_suffixes};
@@ -26,13 +31,19 @@ pub use rb_tags::RootKind;
 pub use rb_urdf::UrdfRobot;
 pub use robot::{Body, Mimic, Robot};
 pub use sizes::{MAX_COLUMNS, MAX_LINKS};
-pub use state::State;
+pub use state::{NoState, State};
 
 #[cfg(test)]
 mod body_tests;
 #[cfg(test)]
+mod build_tests;
+#[cfg(test)]
+mod group_tests;
+#[cfg(test)]
 mod place_tests;
 #[cfg(test)]
 mod robot_tests;
+#[cfg(test)]
+mod state_tests;
 #[cfg(test)]
 mod tests;

@@ -1,13 +1,14 @@
-ghost use Rattle.std.specs.Prelude.{◌≡◌, ◌⊎◌, IfOk, IfErr};
+ghost use Rattle.std.specs.Prelude.{◌≡◌, ◌⊎◌, ◌≤◌, IfOk, IfErr, length};
 ghost use Rattle.rb_urdf.specs.Robot.{IsRobot};
-ghost use Rattle.rb_urdf.specs.declared.robot.UrdfJoint.{UrdfJoint as Joint};
-ghost use Rattle.rb_tree.specs.Order.{IsOrder, IsForest, IsAccepted, HasOrderFault};
+ghost use Rattle.rb_tree.specs.declared.sizes.TheConstants.{MAX_LINKS};
+ghost use Rattle.rb_tree.specs.Order.{IsOrder, IsAccepted};
 ghost use Rattle.rb_tree.specs.Faults.{no_memory};
+ghost use Rattle.rb_tree.specs.Refusals.{IsFirstOrderFault, IsFirstNameFault};
 
 use crate::faults::{TreeFault, TreeKind, fault};
 use crate::grow::{first_apart, stems_of};
 use crate::roots::{check_parents, root_of};
-use crate::sizes::{check_built, check_columns, check_links, check_names, check_root};
+use crate::sizes::{check_columns, check_links, check_names, check_root};
 use rb_urdf::{UrdfJoint, UrdfRobot};
 use std::alloc::Global;
 
@@ -21,15 +22,14 @@ pub(crate) struct Stem {
 }
 
 /// The bodies of the robot in their order, from the root.
-fn stems_in(alloc: Global, robot: &UrdfRobot) -> Result<Vec<Stem>, TreeFault>
+pub(crate) fn order_of(alloc: Global, robot: &UrdfRobot) -> Result<Vec<Stem>, TreeFault>
     ensures kept { IfOk result (λ _. IsRobot robot.now.links robot.now.joints) }
     ensures ok { IfOk result (λ stems. IsOrder robot.now stems.items) }
-    ensures forest { IfOk result (λ _. IsForest robot.now) }
-    ensures err { IfErr result (λ fault. (fault ≡ no_memory) ⊎ ((root : Joint) → HasOrderFault robot.now root fault)) }
+    ensures few { IfOk result (λ _. length robot.now.links ≤ MAX_LINKS) }
+    ensures err { IfErr result (λ fault. (fault ≡ no_memory) ⊎ IsFirstOrderFault robot.now fault) }
 {
     let links = robot.links().as_slice();
     let joints = robot.joints().as_slice();
-    check_built(joints)?;
     check_links(links)?;
     check_parents(joints)?;
     let root = root_of(robot)?;
@@ -40,21 +40,19 @@ fn stems_in(alloc: Global, robot: &UrdfRobot) -> Result<Vec<Stem>, TreeFault>
     Ok(stems)
 }
 
-/// The bodies of the robot in their order, from the root, which this joint bears.
-pub(crate) fn order_of(
-    alloc: Global,
+/// Refuses names and columns of the bodies in their order, from the root, which this joint bears.
+pub(crate) fn check_order(
     robot: &UrdfRobot,
     root: &UrdfJoint,
-) -> Result<Vec<Stem>, TreeFault>
-    ensures kept { IfOk result (λ _. IsRobot robot.now.links robot.now.joints) }
-    ensures ok { IfOk result (λ stems. IsOrder robot.now stems.items) }
-    ensures accepted { IfOk result (λ stems. IsAccepted robot.now root.now stems.items) }
-    ensures err { IfErr result (λ fault. (fault ≡ no_memory) ⊎ HasOrderFault robot.now root.now fault) }
+    stems: &[Stem],
+) -> Result<(), TreeFault>
+    requires ordered { IsOrder robot.now stems.now }
+    requires few { length robot.now.links ≤ MAX_LINKS }
+    ensures accepted { IfOk result (λ _. IsAccepted robot.now root.now stems.now) }
+    ensures err { IfErr result (λ fault. IsFirstNameFault robot.now root.now fault) }
 {
     let joints = robot.joints().as_slice();
-    let stems = stems_in(alloc, robot)?;
     check_root(root, joints)?;
-    check_names(root, joints, stems.as_slice())?;
-    check_columns(root, joints, stems.as_slice())?;
-    Ok(stems)
+    check_names(root, joints, stems)?;
+    check_columns(root, joints, stems)
 }

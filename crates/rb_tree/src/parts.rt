@@ -7,7 +7,7 @@ ghost use Rattle.rb_tree.specs.Faults.{no_memory as no_memory_fault};
 ghost use Rattle.rb_tree.specs.Parts.{kind_of as kind_of_fault, raw_of as raw_of_link, root_joint as root_joint_of, root_kind as root_kind_of, inertia_made as inertia_made_of, joint_made as joint_made_of, IsMadeOf, IsRefusedAt};
 
 use crate::faults::{TreeFault, TreeKind, fault};
-use crate::robot::Body;
+use crate::robot::{Body, Mimic};
 use rb_body::{BodyFault, JointRaw, LinkRaw, inertia_of, joint_of};
 use rb_joint::AnyJoint;
 use rb_num::Iv;
@@ -92,14 +92,16 @@ pub(crate) fn root_joint(
     })
 }
 
-/// The body of a link and the joint that bears it, below this parent.
+/// The body of a link and the joint that bears it, below this parent, which follows another where its joint does.
 pub(crate) fn body_of(
     alloc: Global,
     parent: u32,
     joint: &UrdfJoint,
     link: &UrdfLink,
+    mimic: Option<Mimic>,
 ) -> Result<Body, TreeFault>
     ensures parent { IfOk result (λ body. body.parent ≡ parent) }
+    ensures mimic { IfOk result (λ body. body.mimic ≡ mimic) }
     ensures made { IfOk result (IsMadeOf link.now joint.now) }
     ensures kept { IfOk result IsBodyKept }
     ensures kind { IfOk result (λ body. kind_of_model body.joint ≡ kind_of_joint joint.now.kind) }
@@ -118,6 +120,6 @@ pub(crate) fn body_of(
         joint_name: Text::copy(alloc, joint.name.as_str())?,
         link_raw,
         joint_raw,
-        mimic: None,
+        mimic,
     })
 }

@@ -1,8 +1,10 @@
-ghost use Rattle.std.specs.Prelude.{◌≡◌, ◌<◌, ◌≤◌, ◌+◌, ◌-◌, ◌*◌, IfOk, IfSome, length, slice_index, EachIndex};
+ghost use Rattle.std.specs.Prelude.{◌≡◌, ◌<◌, ◌≤◌, ◌+◌, ◌-◌, ◌*◌, IfOk, IfSome, length, slice_get, slice_index, EachIndex};
 ghost use Rattle.std.specs.Option.{IsSomeAnd};
 ghost use Rattle.std.specs.Str.{IsUtf8};
 
 use crate::columns::{Start, has_mimic, owners_of, starts_of, ups_of};
+use crate::groups::BodyGroup;
+use crate::states::NamedState;
 use rb_body::{JointRaw, LinkRaw};
 use rb_joint::AnyJoint;
 use rb_num::Iv;
@@ -20,6 +22,18 @@ pub struct Mimic {
     pub offset: Iv,
 }
 
+impl Mimic {
+    ghost use Rattle.rb_flat.specs.Choice.{MimicOrdered};
+    ghost use Rattle.rb_tree.specs.Robot.{mimic_brackets};
+
+    /// The ends of both brackets are in order, as those of each interval are.
+    pub(crate) fn in_order(&self)
+        ensures { MimicOrdered (mimic_brackets self.now) }
+    {
+        let _bounds = (self.multiplier.lo(), self.offset.lo());
+    }
+}
+
 /// A body: the number of its parent, the joint that bears it, its inertia, and the names and the brackets of its link and its joint.
 #[derive(Debug, Drop, PartialEq, Eq)]
 pub struct Body {
@@ -33,8 +47,9 @@ pub struct Body {
     pub mimic: Option<Mimic>,
 }
 
-/// A tree of 1 to `MAX_LINKS` bodies with at most `MAX_COLUMNS` columns, also with those of joints that follow others. Bodies and columns are numbered from 1; body 0 is the world. The parent of a body has
-/// a smaller number (Featherstone, Rigid Body Dynamics Algorithms, chapter 4).
+/// A tree of 1 to `MAX_LINKS` bodies with at most `MAX_COLUMNS` columns, also with those of joints that follow others. Bodies and columns are
+/// numbered from 1; body 0 is the world. The parent of a body has a smaller number (Featherstone, Rigid Body Dynamics Algorithms, chapter 4).
+/// With it go groups of its bodies and states that set entries of its position.
 #[derive(Debug, Drop)]
 pub struct Robot {
     name: Text,
@@ -42,6 +57,8 @@ pub struct Robot {
     starts: Vec<Start>,
     owners: Vec<u32>,
     ups: Vec<u32>,
+    groups: Vec<BodyGroup>,
+    states: Vec<NamedState>,
 }
 
 impl Model for Robot {
@@ -49,24 +66,37 @@ impl Model for Robot {
 
     ghost Value = { Tree };
 
-    ghost view = { λ r. record { name = r.name; bodies = r.bodies.items } };
+    ghost view = { λ r. record { name = r.name; bodies = r.bodies.items; groups = r.groups.items; states = r.states.items } };
 
-    ghost invariant = { λ r. IsRobot r.bodies.items r.starts.items r.owners.items r.ups.items };
+    ghost invariant = { λ r. IsRobot (record { name = r.name; bodies = r.bodies.items; groups = r.groups.items; states = r.states.items }) r.starts.items r.owners.items r.ups.items };
 }
 
 impl Robot {
     ghost use Rattle.rb_body.specs.Raw.{link_brackets};
     ghost use Rattle.rb_body.specs.Inertia.{inertia_by, EnclosesInertia};
     ghost use Rattle.rb_body.specs.Joint.{joint_by, EnclosesJoint};
+    ghost use Rattle.rb_tags.specs.declared.tag.TheConstants.{MAX_TAGS};
     ghost use Rattle.rb_tree.specs.declared.sizes.TheConstants.{MAX_LINKS, MAX_COLUMNS};
     ghost use Rattle.rb_tree.specs.Numbers.{joint_at, inertia_at, mimic_at};
     ghost use Rattle.rb_tree.specs.Columns.{body_at, parent_at, full_at, columns_at, entries_at, body_of_column, up_of, first_full, first_column, first_entry, full_count, column_count, entry_count, has_mimic as has_mimic_in, start_behind, leader_at, AreUps};
-    ghost use Rattle.rb_tree.specs.Robot.{HasBody, HasColumn, IsAxisKept, IsBodyKept, IsOnlyLink, HasOwnJointName, IsOnlyJoint, FollowsMaster, AreBodies};
+    ghost use Rattle.std.specs.Prelude.{◌↔◌, IsTrue};
+    ghost use Rattle.rb_tree.specs.States.{HasState};
+    ghost use Rattle.std.specs.List.{AllByRecursion};
+    ghost use Rattle.rb_tree.specs.Robot.{HasBody, HasColumn, IsGroupKept, IsStateKept, IsAxisKept, IsBodyKept, IsOnlyLink, HasOwnJointName, IsOnlyJoint, FollowsMaster, AreBodies};
 
-    /// The robot of these bodies.
-    pub(crate) fn new(alloc: Global, name: Text, bodies: Vec<Body>) -> Result<Robot, AllocError>
-        requires { AreBodies bodies.items }
-        ensures { IfOk result (λ robot. robot ≡ record { name = name; bodies = bodies.items }) }
+    /// The robot of these bodies, groups and states.
+    pub(crate) fn new(
+        alloc: Global,
+        name: Text,
+        bodies: Vec<Body>,
+        groups: Vec<BodyGroup>,
+        states: Vec<NamedState>,
+    ) -> Result<Robot, AllocError>
+        requires bodies { AreBodies bodies.items }
+        requires groups { AllByRecursion (IsGroupKept bodies.items) groups.items }
+        requires few_groups { length groups.items ≤ MAX_TAGS }
+        requires states { AllByRecursion (IsStateKept bodies.items) states.items }
+        ensures { IfOk result (λ robot. robot ≡ record { name = name; bodies = bodies.items; groups = groups.items; states = states.items }) }
     {
         let starts = starts_of(alloc, bodies.as_slice())?;
         let owners = owners_of(alloc, bodies.as_slice())?;
@@ -82,6 +112,8 @@ impl Robot {
             starts,
             owners,
             ups,
+            groups,
+            states,
         })
     }
 
@@ -110,6 +142,22 @@ impl Robot {
         ensures kept { AreBodies self.now.bodies }
     {
         self.bodies.as_slice()
+    }
+
+    pub(crate) fn state_list(&self) -> &[NamedState]
+        ensures states { result.now ≡ self.now.states }
+        ensures kept { AllByRecursion (IsStateKept self.now.bodies) self.now.states }
+    {
+        self.states.as_slice()
+    }
+
+    /// Whether a group state has this name.
+    pub fn has_state(&self, name: &[u8]) -> bool
+        ensures { IsTrue result ↔ HasState self.now.states name.now }
+    {
+        self.state_list()
+            .iter()
+            .any(|state| state.name.as_str().as_bytes() == name)
     }
 
     fn body(&self, i: u32) -> &Body
@@ -172,8 +220,8 @@ impl Robot {
         self.body(i).link_name.as_str().as_bytes()
     }
 
-    /// The name of the joint that bears the body, in UTF-8: `root_joint` for body 1. But for a root's joint that is fixed, no two bodies'
-    /// joints have one name.
+    /// The name of the joint that bears the body, in UTF-8: for body 1 `root_joint` or that of a virtual joint. But for a root's joint that is
+    /// fixed, no two bodies' joints have one name.
     #[inline]
     pub fn joint_name(&self, i: u32) -> &[u8]
         requires { HasBody self.now i }
@@ -335,5 +383,42 @@ impl Robot {
         ensures above { EachIndex result.now (λ k. slice_index result.now k ≤ k) }
     {
         self.ups.as_slice()
+    }
+
+    /// How many groups it has.
+    #[inline]
+    pub fn groups(&self) -> u32
+        ensures count { result ≡ length self.now.groups }
+        ensures few { result ≤ MAX_TAGS }
+    {
+        self.groups.len() as u32
+    }
+
+    fn group(&self, k: u32) -> &BodyGroup
+        requires { k < length self.now.groups }
+        ensures is { slice_get self.now.groups k ≡ Some result.now }
+        ensures kept { IsGroupKept self.now.bodies result.now }
+    {
+        &self.groups[k as usize]
+    }
+
+    /// The name of the group of a number, from 0 in file order, in UTF-8.
+    #[inline]
+    pub fn group_name(&self, k: u32) -> &[u8]
+        requires { k < length self.now.groups }
+        ensures name { IsSomeAnd (slice_get self.now.groups k) (λ group. group.name ≡ result.now) }
+        ensures utf8 { IsUtf8 result.now }
+    {
+        self.group(k).name.as_str().as_bytes()
+    }
+
+    /// The numbers of the bodies of the group of a number, in ascending order. They are there.
+    #[inline]
+    pub fn group_bodies(&self, k: u32) -> &[u32]
+        requires { k < length self.now.groups }
+        ensures bodies { IsSomeAnd (slice_get self.now.groups k) (λ group. group.bodies ≡ result.now) }
+        ensures kept { IsSomeAnd (slice_get self.now.groups k) (IsGroupKept self.now.bodies) }
+    {
+        self.group(k).bodies.as_slice()
     }
 }

@@ -15,7 +15,7 @@ pub(crate) fn robot_on(
 ) -> Option<Result<Robot, TreeFault>> {
     let tags = read_tags(alloc, text.as_bytes()).ok()?;
     let urdf = read_urdf(alloc, &tags).ok()?;
-    Some(Robot::build(alloc, &urdf, root))
+    Some(Robot::build(alloc, &urdf, None, root))
 }
 
 fn robot_of(alloc: Global, text: &str) -> Option<Result<Robot, TreeFault>> {

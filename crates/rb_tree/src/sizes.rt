@@ -1,9 +1,8 @@
-ghost use Rattle.rb_tree.specs.declared.faults.TreeKind.TheVariants.{Unbuilt, TooManyLinks, RootName, NameTwice, TooManyColumns};
-ghost use Rattle.std.specs.Prelude.{◌≡◌, ◌≤◌, ◌↔◌, IsTrue, IfOk, IfErr, length, take};
-ghost use Rattle.std.specs.List.{All, Any, sum_by};
-ghost use Rattle.rb_urdf.specs.Robot.{Robot};
+ghost use Rattle.rb_tree.specs.declared.faults.TreeKind.TheVariants.{TooManyLinks, RootName, NameTwice, TooManyColumns};
+ghost use Rattle.std.specs.Prelude.{◌≡◌, ◌≤◌, ◌↔◌, IsTrue, IfOk, IfErr, length};
+ghost use Rattle.std.specs.List.{Any, sum_by};
 ghost use Rattle.std.specs.Option.{option_copied};
-ghost use Rattle.rb_tree.specs.Sizes.{IsBuildable, bearer_of, columns_of as columns_of_kind, stem_columns as columns_of_stem, HasUnbuilt, PassColumns, HasOwnRootName, IsNamedAsRoot, StemsShare, HaveOwnNames, SharesName};
+ghost use Rattle.rb_tree.specs.Sizes.{bearer_of, columns_of as columns_of_kind, stem_columns as columns_of_stem, PassColumns, HasOwnRootName, IsNamedAsRoot, JointsShare, StemsShare, HaveOwnNames, SharesName};
 ghost use Rattle.rb_tree.specs.Faults.{IsLinkPlace, IsOfKind};
 
 use crate::faults::{TreeFault, TreeKind, fault};
@@ -16,19 +15,6 @@ pub const MAX_LINKS: usize = 256;
 
 /// The most columns of a robot, with those of joints that follow others.
 pub const MAX_COLUMNS: u32 = 64;
-
-/// Refuses the first joint that is not built.
-pub(crate) fn check_built(joints: &[UrdfJoint]) -> Result<(), TreeFault>
-    ensures ok { IfOk result (λ _. All IsBuildable joints.now) }
-    ensures err { IfErr result (λ fault. IsOfKind Unbuilt fault (HasUnbuilt joints.now fault.at)) }
-{
-    for joint in joints {
-        if joint.mimic.is_some() {
-            return Err(fault(TreeKind::Unbuilt, joint.place));
-        }
-    }
-    Ok(())
-}
 
 /// Refuses the link behind the most.
 pub(crate) fn check_links(links: &[UrdfLink]) -> Result<(), TreeFault>
@@ -82,13 +68,20 @@ pub(crate) fn check_root(root: &UrdfJoint, joints: &[UrdfJoint]) -> Result<(), T
     Ok(())
 }
 
+/// Whether two joints have a name of entries in common, or of columns. One that follows another has none of its own.
+fn joints_share(a: &UrdfJoint, b: &UrdfJoint) -> bool
+    ensures { IsTrue result ↔ JointsShare a.now b.now }
+{
+    a.mimic.is_none() && b.mimic.is_none() && share_name(a, b)
+}
+
 /// Whether the joints of two bodies have a name of entries in common, or of columns.
 #[tactic(auto, unfolding(crate::specs::Sizes::StemsShare))]
 fn stems_share(root: &UrdfJoint, joints: &[UrdfJoint], a: &Stem, b: &Stem) -> bool
     ensures { IsTrue result ↔ StemsShare root.now joints.now a.now b.now }
 {
     match (bearer(root, joints, a), bearer(root, joints, b)) {
-        (Some(first), Some(second)) => share_name(first, second),
+        (Some(first), Some(second)) => joints_share(first, second),
         _ => false,
     }
 }

@@ -1,18 +1,22 @@
-ghost use Rattle.std.specs.Prelude.{◌≡◌, ◌<◌, ◌≤◌, ◌+◌, ◌++◌, List, length, IfOk, slice_set, take, drop, replicate};
-ghost use Rattle.std.specs.List.{All};
+ghost use Rattle.std.specs.Prelude.{◌≡◌, ◌<◌, ◌≤◌, ◌+◌, ◌++◌, List, length, IfOk, slice_set, take, drop, replicate, ◌↔◌, IsErr, OnOk, OnErr, Some, codes};
+ghost use Rattle.std.specs.List.{All, AllByRecursion};
 ghost use Rattle.rb_num.specs.Interval.{Interval, zero_interval};
 ghost use Rattle.rb_flat.specs.Choice.{IsOrdered};
 ghost use Rattle.rb_joint.specs.Any.{kind_of};
 ghost use Rattle.rb_flat.specs.Joint.{entry_count as joint_entries};
 ghost use Rattle.rb_tree.specs.Columns.{entry_count};
+ghost use Rattle.rb_tree.specs.States.{HasState, entries_named, IsPositionWith};
 ghost use Rattle.rb_tree.specs.State.{Row, IsRow, Fits, at_place, neutral_entries, neutral_position, neutral_under, standard_gravity};
 
 use crate::columns::own_entries;
 use crate::robot::{Body, Robot};
+use crate::states::{Entry, NamedState};
 use rb_joint::AnyJoint;
 use rb_num::Iv;
 use rb_spatial::Vec3;
 use std::alloc::{AllocError, Global};
+use std::error::Error;
+use std::fmt;
 use std::marker::Model;
 
 /// The numbers of one row: the entries `q` of the position, the speeds `v`, the accelerations `a` and the torques `tau`, each by place from 0, and the
@@ -36,6 +40,20 @@ impl Model for State {
 
     ghost invariant = { λ s. IsRow s.q.items s.v.items s.a.items s.tau.items s.gravity };
 }
+
+/// No group state has the name.
+#[derive(Clone, Copy, Debug, PartialEq, Eq)]
+pub struct NoState;
+
+impl fmt::Display for NoState {
+    ghost output = { λ _. Some (codes "no such state") };
+
+    fn fmt<W: fmt::Write>(&self, f: &mut fmt::Formatter<W>) -> fmt::Result {
+        f.write_str("no such state")
+    }
+}
+
+impl Error for NoState {}
 
 /// Puts a joint into its neutral position.
 fn put_joint(q: &mut [Iv], joint: &AnyJoint)
@@ -89,6 +107,31 @@ fn earth() -> Vec3
     Vec3::new(Iv::ZERO, Iv::ZERO, down)
 }
 
+/// Sets the entries, one after the other.
+fn put_entries(q: &mut [Iv], entries: &[Entry])
+    requires { AllByRecursion (λ entry. entry.place < length q.old) entries.now }
+    ensures position { IsPositionWith entries.now q.old q.new }
+    ensures ordered { All IsOrdered q.old → All IsOrdered q.new }
+{
+    for entry in entries {
+        let _ends = entry.value.lo();
+        q[entry.place] = entry.value;
+    }
+}
+
+/// Sets the entries of each state of this name, one after the other.
+fn put_named(q: &mut [Iv], states: &[NamedState], name: &[u8])
+    requires { AllByRecursion (λ state. AllByRecursion (λ entry. entry.place < length q.old) state.entries) states.now }
+    ensures position { IsPositionWith (entries_named states.now name.now) q.old q.new }
+    ensures ordered { All IsOrdered q.old → All IsOrdered q.new }
+{
+    for state in states {
+        if state.name.as_str().as_bytes() == name {
+            put_entries(q, state.entries.as_slice());
+        }
+    }
+}
+
 impl State {
     /// The neutral state of the robot, under the gravity of (0, 0, -9.81) m/s².
     pub fn new(alloc: Global, robot: &Robot) -> Result<State, AllocError>
@@ -117,6 +160,41 @@ impl State {
         put_zeros(self.v.as_mut_slice());
         put_zeros(self.a.as_mut_slice());
         put_zeros(self.tau.as_mut_slice());
+    }
+
+    /// Puts the position that the group states of this name give, in file order, so that a later one holds where two give an entry. All else stays. It
+    /// is refused exactly where no state has the name, and then nothing changes.
+    pub fn set_named(&mut self, robot: &Robot, name: &[u8]) -> Result<(), NoState>
+        requires { Fits robot.now self.old }
+        ensures absent { IsErr result ↔ ¬ HasState robot.now.states name.now }
+        ensures present { OnOk result (HasState robot.now.states name.now) }
+        ensures position { OnOk result (IsPositionWith (entries_named robot.now.states name.now) self.old.q self.new.q) }
+        ensures rest { OnOk result (self.new ≡ record self.old { q = self.new.q }) }
+        ensures unchanged { OnErr result (self.new ≡ self.old) }
+        ensures fits { Fits robot.now self.new }
+    {
+        if !robot.has_state(name) {
+            return Err(NoState);
+        }
+        put_named(self.q.as_mut_slice(), robot.state_list(), name);
+        Ok(())
+    }
+
+    /// Takes the numbers and the gravity of another state, which has as many.
+    pub fn set_to(&mut self, other: &State)
+        requires q { length self.old.q ≡ length other.now.q }
+        requires v { length self.old.v ≡ length other.now.v }
+        requires a { length self.old.a ≡ length other.now.a }
+        requires tau { length self.old.tau ≡ length other.now.tau }
+        ensures { self.new ≡ other.now }
+    {
+        self.q.as_mut_slice().copy_from_slice(other.q.as_slice());
+        self.v.as_mut_slice().copy_from_slice(other.v.as_slice());
+        self.a.as_mut_slice().copy_from_slice(other.a.as_slice());
+        self.tau
+            .as_mut_slice()
+            .copy_from_slice(other.tau.as_slice());
+        self.gravity = other.gravity;
     }
 
     /// The entry of the position at this place.

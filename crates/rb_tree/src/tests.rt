@@ -1,11 +1,11 @@
 //! Orders and refusals over file texts, with places counted by hand.
 use crate::faults::{TreeFault, TreeKind, WhichFile};
-use crate::order::{Stem, order_of};
+use crate::order::{Stem, check_order, order_of};
 use crate::parts::{root_joint, root_kind};
 use crate::robot::{Body, Mimic, Robot};
 use crate::state::State;
 use rb_tags::{RootKind, read_tags};
-use rb_urdf::read_urdf;
+use rb_urdf::{UrdfJoint, UrdfRobot, read_urdf};
 use std::alloc::{AllocError, Global};
 use std::test::Fail;
 
@@ -25,6 +25,13 @@ fn borne(link: u32, joint: u32, parent: u32) -> Stem {
     }
 }
 
+// The order of a robot whose root this joint bears.
+fn accepted(alloc: Global, robot: &UrdfRobot, root: &UrdfJoint) -> Result<Vec<Stem>, TreeFault> {
+    let order = order_of(alloc, robot)?;
+    check_order(robot, root, order.as_slice())?;
+    Ok(order)
+}
+
 // What the bodies of a file's robot with a root of this kind are, or why not; nothing if it holds no robot.
 fn ordered_on(
     alloc: Global,
@@ -34,7 +41,7 @@ fn ordered_on(
     let tags = read_tags(alloc, text).ok()?;
     let robot = read_urdf(alloc, &tags).ok()?;
     let root = root_joint(alloc, root_kind(root), "root_joint", robot.place()).ok()?;
-    Some(order_of(alloc, &robot, &root))
+    Some(accepted(alloc, &robot, &root))
 }
 
 fn ordered(alloc: Global, text: &[u8]) -> Option<Result<Vec<Stem>, TreeFault>> {
@@ -124,14 +131,6 @@ fn cycles_and_second_parents_are_refused_at_their_places(rt: HostRuntime) {
     let twice =
         br#"<robot name="r"><link name="a"/><link name="b"/><joint name="j" type="fixed"><parent link="a"/><child link="b"/></joint><joint name="k" type="fixed"><parent link="b"/><child link="a"/></joint><joint name="l" type="fixed"><parent link="a"/><child link="b"/></joint></robot>"#;
     assert!(rt; has_fault(alloc, twice, TreeKind::TwoParents, 192));
-}
-
-#[test]
-fn joints_that_follow_others_are_refused_first(rt: HostRuntime) {
-    let alloc = rt.alloc();
-    let pair =
-        br#"<robot name="r"><link name="a"/><link name="b"/><link name="c"/><joint name="j" type="revolute"><parent link="a"/><child link="b"/></joint><joint name="k" type="revolute"><parent link="a"/><child link="b"/><mimic joint="j"/></joint></robot>"#;
-    assert!(rt; has_fault(alloc, pair, TreeKind::Unbuilt, 139));
 }
 
 #[test]
@@ -323,6 +322,13 @@ fn faults_as_texts(rt: HostRuntime) -> Result<(), Fail> {
     };
     let text = format!(in rt.alloc(); "{fault}")?;
     assert_eq!(rt; text.as_str(), "urdf: TwoRoots at 38");
+    let other = TreeFault {
+        kind: TreeKind::OtherRobot,
+        file: WhichFile::Srdf,
+        at: 1,
+    };
+    let other_text = format!(in rt.alloc(); "{other}")?;
+    assert_eq!(rt; other_text.as_str(), "srdf: OtherRobot at 1");
     Ok(())
 }
 

@@ -1,0 +1,177 @@
+use super::*;
+use rb_srdf::read_srdf;
+use rb_tags::read_tags;
+use rb_urdf::read_urdf;
+use std::alloc::Global;
+use std::test::*;
+
+// The robot of two files that the readers take, or its fault.
+fn robot_on(alloc: Global, urdf: &str, srdf: &str) -> Option<Result<Robot, TreeFault>> {
+    let urdf_tags = read_tags(alloc, urdf.as_bytes()).ok()?;
+    let urdf = read_urdf(alloc, &urdf_tags).ok()?;
+    let srdf_tags = read_tags(alloc, srdf.as_bytes()).ok()?;
+    let srdf = read_srdf(alloc, &srdf_tags).ok()?;
+    Some(Robot::build(alloc, &urdf, Some(&srdf), None))
+}
+
+// The bodies are base, upper, lower, tip and left.
+const ARM: &str =
+    "<robot name='arm'><link name='left'/><link name='tip'/><link name='lower'/><link name='upper'/><link name='base'/><joint name='shoulder' type='revolute'><parent link='base'/><child link='upper'/></joint><joint name='elbow' type='revolute'><parent link='upper'/><child link='lower'/></joint><joint name='side' type='fixed'><parent link='upper'/><child link='left'/></joint><joint name='wrist' type='revolute'><parent link='lower'/><child link='tip'/></joint></robot>";
+
+// What stands in a robot, in a file of groups.
+fn semantics(alloc: Global, inside: &str) -> Result<String, Fail> {
+    Ok(format!(in alloc; "<robot name='arm'>{inside}</robot>")?)
+}
+
+// Whether these are the bodies of the group of a number.
+fn has_bodies(robot: &Robot, k: u32, bodies: &[u32]) -> bool {
+    k < robot.groups() && robot.group_bodies(k) == bodies
+}
+
+// Whether the group of a number has this name.
+fn is_named(robot: &Robot, k: u32, name: &str) -> bool {
+    k < robot.groups() && robot.group_name(k) == name.as_bytes()
+}
+
+// What stands in a group, and its bodies. The root's joint is fixed and has the name of a joint of the file; another virtual joint bears the tip.
+const GROUPS: [(&str, &[u32]); 11] = [
+    ("", &[]),
+    ("<link name='left'/><link name='base'/>", &[1, 5]),
+    ("<joint name='wrist'/><joint name='side'/>", &[4, 5]),
+    ("<chain base_link='base' tip_link='tip'/>", &[2, 3, 4]),
+    ("<chain base_link='upper' tip_link='tip'/>", &[3, 4]),
+    ("<chain base_link='upper' tip_link='left'/>", &[5]),
+    ("<chain base_link='lower' tip_link='lower'/>", &[]),
+    ("<chain base_link='base' tip_link='base'/>", &[]),
+    (
+        "<link name='tip'/><chain base_link='lower' tip_link='tip'/><joint name='wrist'/>",
+        &[4],
+    ),
+    ("<joint name='shoulder'/>", &[2]),
+    ("<joint name='grasp'/>", &[]),
+];
+
+#[test]
+fn items_give_bodies(rt: HostRuntime) -> Result<(), Fail> {
+    let alloc = rt.alloc();
+    for (items, bodies) in GROUPS {
+        let text = format!(in alloc;
+            "<robot name='arm'><group name='g'>{items}</group><virtual_joint name='shoulder' type='fixed' child_link='base'/><virtual_joint name='grasp' type='floating' child_link='tip'/></robot>"
+        )?;
+        let built = robot_on(alloc, ARM, text.as_str()).ok_or("two files")?;
+        let robot = built.ok().ok_or("a robot")?;
+        assert!(rt; has_bodies(&robot, 0, bodies), "{items}");
+        assert!(rt; is_named(&robot, 0, "g"));
+    }
+    Ok(())
+}
+
+#[test]
+fn the_root_joint_gives_the_root(rt: HostRuntime) -> Result<(), Fail> {
+    let alloc = rt.alloc();
+    let text = semantics(alloc, "<group name='g'><joint name='root_joint'/></group>")?;
+    let built = robot_on(alloc, ARM, text.as_str()).ok_or("two files")?;
+    let robot = built.ok().ok_or("a robot")?;
+    assert!(rt; has_bodies(&robot, 0, &[1]));
+    let world = semantics(
+        alloc,
+        "<group name='g'><joint name='world'/></group><virtual_joint name='world' type='planar' child_link='base'/>",
+    )?;
+    let moved = robot_on(alloc, ARM, world.as_str()).ok_or("two files")?;
+    let planar = moved.ok().ok_or("a robot")?;
+    assert!(rt; has_bodies(&planar, 0, &[1]));
+    Ok(())
+}
+
+// Groups that hold groups that come later in the file.
+const HELD: &str =
+    "<group name='all'><group name='arm'/><joint name='side'/></group><group name='arm'><group name='hand'/><chain base_link='base' tip_link='lower'/><group name='hand'/></group><group name='hand'><link name='tip'/></group>";
+
+#[test]
+fn groups_have_the_bodies_of_those_that_they_hold(rt: HostRuntime) -> Result<(), Fail> {
+    let alloc = rt.alloc();
+    let text = semantics(alloc, HELD)?;
+    let built = robot_on(alloc, ARM, text.as_str()).ok_or("two files")?;
+    let robot = built.ok().ok_or("a robot")?;
+    assert_eq!(rt; robot.groups(), 3);
+    assert!(rt; is_named(&robot, 0, "all") && has_bodies(&robot, 0, &[2, 3, 4, 5]));
+    assert!(rt; is_named(&robot, 1, "arm") && has_bodies(&robot, 1, &[2, 3, 4]));
+    assert!(rt; is_named(&robot, 2, "hand") && has_bodies(&robot, 2, &[4]));
+    Ok(())
+}
+
+// What stands in a robot, and the kind and the place of its fault. The first element is at 18.
+const FAULTS: [(&str, TreeKind, u64); 11] = [
+    (
+        "<group name='g'><link name='hand'/></group>",
+        TreeKind::UnknownName,
+        18,
+    ),
+    (
+        "<group name='g'><link name='elbow'/></group>",
+        TreeKind::UnknownName,
+        18,
+    ),
+    (
+        "<group name='g'><joint name='base'/></group>",
+        TreeKind::UnknownName,
+        18,
+    ),
+    (
+        "<group name='g'><chain base_link='base' tip_link='hand'/></group>",
+        TreeKind::UnknownName,
+        18,
+    ),
+    (
+        "<group name='g'><chain base_link='hand' tip_link='tip'/></group>",
+        TreeKind::UnknownName,
+        18,
+    ),
+    (
+        "<group name='g'><chain base_link='tip' tip_link='base'/></group>",
+        TreeKind::BadChain,
+        18,
+    ),
+    (
+        "<group name='g'><chain base_link='left' tip_link='tip'/></group>",
+        TreeKind::BadChain,
+        18,
+    ),
+    (
+        "<group name='g'><chain base_link='tip' tip_link='base'/><link name='hand'/></group>",
+        TreeKind::UnknownName,
+        18,
+    ),
+    (
+        "<group name='f'/><group name='g'><chain base_link='tip' tip_link='base'/></group><group name='h'><link name='hand'/></group>",
+        TreeKind::BadChain,
+        35,
+    ),
+    (
+        "<group name='f'><group name='g'/></group><group name='g'><link name='hand'/></group>",
+        TreeKind::UnknownName,
+        59,
+    ),
+    (
+        "<group name='g'><joint name='root_joint'/></group><virtual_joint name='world' type='fixed' child_link='base'/>",
+        TreeKind::UnknownName,
+        18,
+    ),
+];
+
+#[test]
+fn groups_are_refused(rt: HostRuntime) -> Result<(), Fail> {
+    let alloc = rt.alloc();
+    for (inside, kind, at) in FAULTS {
+        let text = semantics(alloc, inside)?;
+        let fault = TreeFault {
+            kind,
+            file: WhichFile::Srdf,
+            at,
+        };
+        assert!(rt;
+            matches!(robot_on(alloc, ARM, text.as_str()), Some(Err(found)) if found == fault)
+        );
+    }
+    Ok(())
+}
