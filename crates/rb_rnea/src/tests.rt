@@ -66,7 +66,7 @@ fn work_for(alloc: Global, robot: &Robot) -> Result<Work, AllocError>
 fn robot_of(alloc: Global, text: &str, root: Option<RootKind>) -> Option<Robot> {
     let tags = read_tags(alloc, text.as_bytes()).ok()?;
     let urdf = read_urdf(alloc, &tags).ok()?;
-    Robot::build(alloc, &urdf, root).ok()
+    Robot::build(alloc, &urdf, None, root).ok()
 }
 
 // The robot with a row and a work.
@@ -198,6 +198,32 @@ fn a_bead_on_a_table(rt: HostRuntime) -> Result<(), Fail> {
     Ok(())
 }
 
+// Three vertical slides, each on the one before. The second leads; the first follows it twofold, and the third backward.
+const HOIST: &str =
+    "<robot name='hoist'><link name='base'/><link name='outer'><inertial><mass value='1'/></inertial></link><link name='middle'><inertial><mass value='2'/></inertial></link><link name='inner'><inertial><mass value='3'/></inertial></link><joint name='first' type='prismatic'><parent link='base'/><child link='outer'/><axis xyz='0 0 1'/><mimic joint='second' multiplier='2' offset='0.1'/></joint><joint name='second' type='prismatic'><parent link='outer'/><child link='middle'/><axis xyz='0 0 1'/></joint><joint name='third' type='prismatic'><parent link='middle'/><child link='inner'/><axis xyz='0 0 1'/><mimic joint='second' multiplier='-1'/></joint></robot>";
+
+// Where the second moves by x, the links rise by 2 x, 3 x and 2 x. So the weights bear on it with (2 * 1 + 3 * 2 + 2 * 3) g = 14 g, and it moves
+// 4 * 1 + 9 * 2 + 4 * 3 = 34 kg.
+#[test]
+fn a_hoist_with_two_followers(rt: HostRuntime) -> Result<(), Fail> {
+    let alloc = rt.alloc();
+    let row = [
+        Given::Entry(0, 500_000_000_000, 500_000_000_000),
+        Given::Speed(0, 3_000_000_000_000),
+        Given::Acceleration(0, 1_000_000_000_000),
+    ];
+    // 14 * 9.81 + 34
+    let moved = Ok(exactly(171_340_000_000_000));
+    assert_eq!(rt; torque(alloc, HOIST, None, &row, 1)?, moved);
+    let still = Ok(exactly(137_340_000_000_000));
+    assert_eq!(rt; held(alloc, HOIST, &row, 1)?, still);
+    Ok(())
+}
+
+// Two vertical slides, of which the second follows the first 10^12 fold.
+const FAR: &str =
+    "<robot name='far'><link name='base'/><link name='near'/><link name='far'><inertial><mass value='1'/></inertial></link><joint name='one' type='prismatic'><parent link='base'/><child link='near'/><axis xyz='0 0 1'/></joint><joint name='two' type='prismatic'><parent link='near'/><child link='far'/><axis xyz='0 0 1'/><mimic joint='one' multiplier='1000000000000'/></joint></robot>";
+
 // A load of 120000 kg, 1200000 m ahead of its base.
 const AHEAD: &str =
     "<robot name='ahead'><link name='base'/><link name='load'><inertial><mass value='120000'/></inertial></link><joint name='mount' type='fixed'><parent link='base'/><child link='load'/><origin xyz='1200000 0 0'/></joint></robot>";
@@ -210,7 +236,8 @@ const SLIDE: &str =
 const MUCH: i64 = 1_200_000_000_000_000_000;
 
 // A robot, the kind of its root, a row, and the kind and the number of the first name that is too large.
-const TOO_LARGE: [(&str, Option<RootKind>, &[Given], NameKind, u32); 8] = [
+const TOO_LARGE: [(&str, Option<RootKind>, &[Given], NameKind, u32); 10] = [
+    (FAR, None, &[Given::Entry(0, MUCH, MUCH)], NameKind::q, 3),
     (BOX, LEVEL, &[Given::Entry(2, -MUCH, MUCH)], NameKind::X, 1),
     (SLIDE, None, &[Given::Speed(0, 2 * MUCH)], NameKind::s, 2),
     (AHEAD, LEVEL, &[Given::Speed(2, MUCH)], NameKind::v, 2),
@@ -237,6 +264,7 @@ const TOO_LARGE: [(&str, Option<RootKind>, &[Given], NameKind, u32); 8] = [
     ),
     (AHEAD, LEVEL, &[], NameKind::f, 1),
     (SLIDE, None, &[], NameKind::t, 2),
+    (FAR, None, &[], NameKind::T, 1),
 ];
 
 const LEVEL: Option<RootKind> = Some(RootKind::Planar);
