@@ -9,7 +9,7 @@ use Rattle.rb_urdf.specs.Urdf.{urdf_of}
 use Rattle.rb_urdf.specs.Faults as Urdf
 use Rattle.rb_tree.specs.Build as Build
 use Rattle.rb_tree.specs.Faults as Tree
-use Rattle.rb_tree.specs.Parts.{root_of}
+use Rattle.rb_tree.specs.Refusals as Refusals
 use Rattle.rb_tree.specs.Robot.{Tree}
 use Rattle.rb_tree.specs.declared.faults.TreeFault.{TreeFault}
 use Rattle.outline.specs.declared.faults.Fault.{Fault}
@@ -28,17 +28,21 @@ IsMemory fault = ⊥
 abbrev pub urdf_in : List ℕ → Result Robot Fault
 urdf_in bytes = told_as Is.Tags (tags_of bytes) >>= λ tags. told_as Is.Urdf (urdf_of tags)
 
--- this tree is the robot, with a root that does not move
+-- a robot of this file alone, with a root that does not move
+abbrev pub source : Robot → Build.Source
+source urdf = record { urdf = urdf; srdf = None; root = None }
+
+-- this tree is the robot
 pub record IsRobotOf (bytes : List ℕ) (tree : Tree) : Type 0 where
   pub urdf : Robot
   pub read : urdf_in bytes ≡ Ok urdf
-  pub built : Build.IsBuilt urdf (root_of urdf None) tree
+  pub built : Build.IsBuilt (source urdf) tree
 
 -- the links and joints are no tree
 pub record IsNoTree (bytes : List ℕ) (why : TreeFault) : Type 0 where
   pub urdf : Robot
   pub read : urdf_in bytes ≡ Ok urdf
-  pub fault : Build.HasFault urdf (root_of urdf None) why
+  pub fault : Refusals.HasFault (source urdf) why
 
 -- the bytes hold no robot for this fault
 abbrev pub HasFault : List ℕ → Fault → Type 0

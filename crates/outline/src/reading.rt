@@ -15,6 +15,6 @@ pub(crate) fn robot_in(alloc: Global, bytes: &[u8]) -> Result<Robot, Fault>
 {
     let tags = read_tags(alloc, bytes)?;
     let urdf = read_urdf(alloc, &tags)?;
-    let robot = Robot::build(alloc, &urdf, None)?;
+    let robot = Robot::build(alloc, &urdf, None, None)?;
     Ok(robot)
 }
