@@ -18,6 +18,7 @@ use Rattle.rbd.specs.Course.{Course, stopped, ending, course_behind, course_of_r
 use Rattle.rbd.specs.Cut.{Line}
 use Rattle.rbd.specs.Inputs.{Rows, rows, rows_behind, rows_of_lines, long_line, is_long}
 use Rattle.rbd.specs.Columns.{header_of}
+use Rattle.rbd.specs.Plan.{Plan}
 use Rattle.rbd.specs.Run.{Stream, is_plain, Follows}
 use Rattle.rbd.proofs.EachRow.{text_from, answer_from, text_long, answer_long, steps_are}
 
@@ -27,15 +28,15 @@ puts_all {old} {new} {whole} {rest} h none =
     h.put ∙ ap (λ t. old ++ t) (sym (h.left ∙ ap (λ t. h.done ++ t) none ∙ append-nil h.done))
 
 -- ---- of the rows behind the header
-module _ (tree : Tree) (header : Header) (lines : List Line) (out : Stream) where
+module _ (plan : Plan) (header : Header) (lines : List Line) (out : Stream) where
   course : Course
-  course = course_behind tree (rows header lines)
+  course = course_behind plan (rows header lines)
 
   -- a run that came to the end of the rows, or to one that is too long
-  ended : (answer : Result Bool Stop) (rest : List ℕ) → answer_from tree header 1 false lines ≡ answer → (IsTrue out.tells → Puts out.old out.new (text_from tree header 1 lines) rest) → rest ≡ []
-      → Follows (course_behind tree (rows header lines)) out answer
+  ended : (answer : Result Bool Stop) (rest : List ℕ) → answer_from plan header 1 false lines ≡ answer → (IsTrue out.tells → Puts out.old out.new (text_from plan header 1 lines) rest) → rest ≡ []
+      → Follows (course_behind plan (rows header lines)) out answer
   ended answer rest is puts none =
-      let steps = steps_are tree header lines in
+      let steps = steps_are plan header lines in
       record {
         answers = λ plain. sym (steps.answer ∙ is);
         whole = λ plain told. puts_all (puts told) none ∙ ap (λ t. out.old ++ t) (sym steps.put);
@@ -43,20 +44,20 @@ module _ (tree : Tree) (header : Header) (lines : List Line) (out : Stream) wher
       }
 
   pub follows_long : (number : ℕ) (bad : Bool) (left : List Line) (row : Line) (others : List Line) → left ≡ row ∷ others → 65536 < row.size
-      → answer_from tree header number bad left ≡ answer_from tree header 1 false lines → (IsTrue out.tells → Puts out.old out.new (text_from tree header 1 lines) (text_from tree header number left))
-      → Follows (course_behind tree (rows header lines)) out (Err (AtRows (LineTooLong number)))
+      → answer_from plan header number bad left ≡ answer_from plan header 1 false lines → (IsTrue out.tells → Puts out.old out.new (text_from plan header 1 lines) (text_from plan header number left))
+      → Follows (course_behind plan (rows header lines)) out (Err (AtRows (LineTooLong number)))
   follows_long number bad left row others is long answers puts =
-      ended (Err (AtRows (LineTooLong number))) (text_from tree header number left) (sym answers ∙ answer_long tree header number bad left row others is long) puts
-      (text_long tree header number left row others is long)
+      ended (Err (AtRows (LineTooLong number))) (text_from plan header number left) (sym answers ∙ answer_long plan header number bad left row others is long) puts
+      (text_long plan header number left row others is long)
 
-  pub follows_end : (number : ℕ) (bad : Bool) (left : List Line) → left ≡ [] → answer_from tree header number bad left ≡ answer_from tree header 1 false lines
-      → (IsTrue out.tells → Puts out.old out.new (text_from tree header 1 lines) (text_from tree header number left)) → Follows (course_behind tree (rows header lines)) out (Ok bad)
+  pub follows_end : (number : ℕ) (bad : Bool) (left : List Line) → left ≡ [] → answer_from plan header number bad left ≡ answer_from plan header 1 false lines
+      → (IsTrue out.tells → Puts out.old out.new (text_from plan header 1 lines) (text_from plan header number left)) → Follows (course_behind plan (rows header lines)) out (Ok bad)
   follows_end number bad left none answers puts =
-      ended (Ok bad) (text_from tree header number left) (sym answers ∙ ap (answer_from tree header number bad) none) puts (ap (text_from tree header number) none)
+      ended (Ok bad) (text_from plan header number left) (sym answers ∙ ap (answer_from plan header number bad) none) puts (ap (text_from plan header number) none)
 
-  pub follows_fault : (IsTrue out.tells → PutsPart out.old out.new (text_from tree header 1 lines)) → Follows (course_behind tree (rows header lines)) out (Err Output)
+  pub follows_fault : (IsTrue out.tells → PutsPart out.old out.new (text_from plan header 1 lines)) → Follows (course_behind plan (rows header lines)) out (Err Output)
   follows_fault part =
-      let steps = steps_are tree header lines in
+      let steps = steps_are plan header lines in
       record {
         answers = λ plain. absurd cc;
         whole = λ plain told. absurd cc;
@@ -81,33 +82,33 @@ follows_stop stop out same = record {
 }
 
 -- the rows are refused
-pub follows_refused : (tree : Tree) (read : Result Rows RowsFault) (fault : RowsFault) (out : Stream) → read ≡ Err fault → (IsTrue out.tells → out.new ≡ out.old)
-    → Follows (course_of_rows tree read) out (Err (AtRows fault))
-follows_refused tree read fault out is same = rw is (follows_stop (AtRows fault) out same)
+pub follows_refused : (plan : Plan) (read : Result Rows RowsFault) (fault : RowsFault) (out : Stream) → read ≡ Err fault → (IsTrue out.tells → out.new ≡ out.old)
+    → Follows (course_of_rows plan read) out (Err (AtRows fault))
+follows_refused plan read fault out is same = rw is (follows_stop (AtRows fault) out same)
 
 -- the header is refused, or no memory was found for it
-pub header_stops : (tree : Tree) (read : Result Rows RowsFault) (out : Stream) (stop : RowsStop) → (stop ≡ part.Memory) ⊎ ((fault : RowsFault) × (stop ≡ part.Fault fault) × (read ≡ Err fault)) → (IsTrue out.tells → out.new ≡ out.old)
-    → Follows (course_of_rows tree read) out (Err (stop_of_rows stop))
-header_stops tree read out stop (inl memory) same = rw memory (follows_nothing (course_of_rows tree read) out Memory refl same)
-header_stops tree read out stop (inr (fault, is, refused)) same = rw is (follows_refused tree read fault out refused same)
+pub header_stops : (plan : Plan) (read : Result Rows RowsFault) (out : Stream) (stop : RowsStop) → (stop ≡ part.Memory) ⊎ ((fault : RowsFault) × (stop ≡ part.Fault fault) × (read ≡ Err fault)) → (IsTrue out.tells → out.new ≡ out.old)
+    → Follows (course_of_rows plan read) out (Err (stop_of_rows stop))
+header_stops plan read out stop (inl memory) same = rw memory (follows_nothing (course_of_rows plan read) out Memory refl same)
+header_stops plan read out stop (inr (fault, is, refused)) same = rw is (follows_refused plan read fault out refused same)
 
 -- the first line alone failed
-pub follows_first : (tree : Tree) (found : Rows) (out : Stream) → (IsTrue out.tells → PutsPart out.old out.new (first_line tree))
-    → Follows (course_of_rows tree (Ok found)) out (Err Output)
-follows_first tree found out part = record {
+pub follows_first : (plan : Plan) (found : Rows) (out : Stream) → (IsTrue out.tells → PutsPart out.old out.new (first_line plan.tree))
+    → Follows (course_of_rows plan (Ok found)) out (Err Output)
+follows_first plan found out part = record {
   answers = λ plain. absurd cc;
   whole = λ plain told. absurd cc;
   part = λ told. part_first _ _ (part told);
 }
 
 -- the first line, and then the rows behind the header
-pub follows_behind : (tree : Tree) (found : Rows) (tells : Bool) (old mid new : List ℕ) (before between after : ℕ) (answer : Result Bool Stop)
-    → (IsTrue tells → mid ≡ old ++ first_line tree) → Follows (course_behind tree found) (record { tells = tells; old = mid; new = new; before = between; after = after }) answer
-    → Follows (course_of_rows tree (Ok found)) (record { tells = tells; old = old; new = new; before = before; after = after }) answer
-follows_behind tree found tells old mid new before between after answer first behind = record {
+pub follows_behind : (plan : Plan) (found : Rows) (tells : Bool) (old mid new : List ℕ) (before between after : ℕ) (answer : Result Bool Stop)
+    → (IsTrue tells → mid ≡ old ++ first_line plan.tree) → Follows (course_behind plan found) (record { tells = tells; old = mid; new = new; before = between; after = after }) answer
+    → Follows (course_of_rows plan (Ok found)) (record { tells = tells; old = old; new = new; before = before; after = after }) answer
+follows_behind plan found tells old mid new before between after answer first behind = record {
   answers = behind.answers;
-  whole = λ plain told. behind.whole plain told ∙ ap (λ t. t ++ (course_behind tree found).put) (first told) ∙ append_assoc old (first_line tree) (course_behind tree found).put;
-  part = λ told. part_later (first_line tree) (course_behind tree found).put (first told) (behind.part told);
+  whole = λ plain told. behind.whole plain told ∙ ap (λ t. t ++ (course_behind plan found).put) (first told) ∙ append_assoc old (first_line plan.tree) (course_behind plan found).put;
+  part = λ told. part_later (first_line plan.tree) (course_behind plan found).put (first told) (behind.part told);
 }
 
 -- ---- rows that are not too long in all
@@ -120,9 +121,9 @@ long_otherwise true number fault is same = let e : LineTooLong number ≡ TooLon
 long_otherwise false number fault is same = absurd cc
 
 -- the run behind the header does not end so
-pub behind_otherwise : (tree : Tree) (found : Rows) (out : Stream) → Follows (course_behind tree found) out (Err (AtRows TooLong)) → ⊥
+pub behind_otherwise : (plan : Plan) (found : Rows) (out : Stream) → Follows (course_behind plan found) out (Err (AtRows TooLong)) → ⊥
 unfolding long_line
-behind_otherwise tree found out follows =
+behind_otherwise plan found out follows =
     ends_otherwise (long_line found) _ (λ fault is same. long_otherwise (list_any is_long found.lines) _ fault is same) (sym (follows.answers refl))
 
 -- and the header is not refused so

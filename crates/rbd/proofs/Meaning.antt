@@ -116,10 +116,10 @@ none_long (line ∷ lines) none = by_size (is_long line) (none_long lines) refl 
         let next : 1 + prefix_len is_short lines ≡ suc (prefix_len is_short lines) = omega arith in
         rw is (rw next (ap (λ (ls : List Line). line ∷ ls) (later none)))
 
-inputs_counted : (tree : Tree) (found : Rows) → long_line found ≡ None → length (inputs_of tree found) ≡ length found.lines
+inputs_counted : (start : Row) (found : Rows) → long_line found ≡ None → length (inputs_of start found) ≡ length found.lines
 unfolding inputs_of long_line
-inputs_counted tree found none =
-    length-map (take_while is_short found.lines) (λ (line : Line). row_of tree found.header line.content)
+inputs_counted start found none =
+    length-map (take_while is_short found.lines) (λ (line : Line). row_of start found.header line.content)
     ∙ ap length (none_long found.lines (by_any (list_any is_long found.lines) none))
   where
     by_any : (any : Bool) → cond any (Some (LineTooLong (length (take_while is_short found.lines) + 1))) None ≡ None → any ≡ false
@@ -137,25 +137,25 @@ ending_is (Some fault) answers refused is = absurd cc
 -- ---- a run
 module _ (means : (tree : Tree) (row : Row) → AreBodies tree.bodies → AnswerMeans tree row)
     (words : List (List ℕ)) (inputs : Source) (out : Stream) (ended : Status) (refused : Bool) (is : ended ≡ status_of (Ok refused)) (told : IsTrue out.tells) where
-  rows_proved : (plan : Plan) → IsPlan words inputs.holds plan → (read : Result Rows RowsFault) → rows_of plan.tree (inputs.holds (codes "-")) ≡ read → Follows (course_of_rows plan.tree read) out (Ok refused)
+  rows_proved : (plan : Plan) → IsPlan words inputs.holds plan → (read : Result Rows RowsFault) → rows_of plan.tree (inputs.holds (codes "-")) ≡ read → Follows (course_of_rows plan read) out (Ok refused)
       → IsProved words inputs out ended
   rows_proved plan planned (Err fault) read follows = let e : Ok refused ≡ Err (AtRows fault) = follows.answers refl in absurd cc
   rows_proved plan planned (Ok found) read follows =
-      let end = ending_is (long_line found) (answers_of plan.tree found) refused (follows.answers refl) in
+      let end = ending_is (long_line found) (answers_of plan found) refused (follows.answers refl) in
       record {
         plan = plan;
         is_plan = planned;
         rows = found;
         are_rows = read;
-        lines = lines_from 1 (column_count plan.tree.bodies) (answers_of plan.tree found);
+        lines = lines_from 1 (column_count plan.tree.bodies) (answers_of plan found);
         put = follows.whole refl told;
-        count = lines_counted 1 (column_count plan.tree.bodies) (answers_of plan.tree found) ∙ length-map (inputs_of plan.tree found) (answer_to plan.tree) ∙ inputs_counted plan.tree found end.none;
+        count = lines_counted 1 (column_count plan.tree.bodies) (answers_of plan found) ∙ length-map (inputs_of plan.start found) (answer_to plan.tree) ∙ inputs_counted plan.start found end.none;
         each = λ k input line there put.
-            let answer : slice_get (answers_of plan.tree found) k ≡ Some (answer_to plan.tree input) =
-            slice_get-map (answer_to plan.tree) (inputs_of plan.tree found) k ∙ ap (option_map (answer_to plan.tree)) there in
+            let answer : slice_get (answers_of plan found) k ≡ Some (answer_to plan.tree input) =
+            slice_get-map (answer_to plan.tree) (inputs_of plan.start found) k ∙ ap (option_map (answer_to plan.tree)) there in
             let number : 1 + k ≡ k + 1 = omega arith in
             line_means means plan.tree planned.robot.kept (k + 1) input line
-            (line_at 1 (column_count plan.tree.bodies) (answers_of plan.tree found) k (answer_to plan.tree input) line answer put
+            (line_at 1 (column_count plan.tree.bodies) (answers_of plan found) k (answer_to plan.tree input) line answer put
             ∙ ap (λ (m : ℕ). line_of m (column_count plan.tree.bodies) (answer_to plan.tree input)) number);
         status = is ∙ ap (λ (b : Bool). status_of (Ok b)) end.is;
       }

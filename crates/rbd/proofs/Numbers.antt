@@ -6,8 +6,8 @@ use Rattle.std.proofs.lemmas.List.{set-append_left, set-append_right, get_or_app
 use Rattle.rb_num.specs.Interval.{Interval, zero_interval}
 use Rattle.rb_tree.specs.Columns.{entry_count, column_count}
 use Rattle.rb_tree.specs.Robot.{Tree}
-use Rattle.rb_tree.specs.State.{Row, Fits, at_place, standard_gravity, neutral_under}
-use Rattle.rbd.specs.Fields.{numbers_of, state_of, neutral_numbers, HasSizes}
+use Rattle.rb_tree.specs.State.{Row, Fits, at_place}
+use Rattle.rbd.specs.Fields.{numbers_of, with_numbers, HasSizes}
 
 pub numbers_long : (row : Row) (entries columns : ℕ) → HasSizes row entries columns → length (numbers_of row) ≡ entries + columns + columns + columns
 numbers_long row entries columns sizes =
@@ -86,39 +86,31 @@ front xs ys n long = rw (← long) (take-append_seam xs ys)
 behind : (xs ys : List Interval) (n : ℕ) → length xs ≡ n → drop n (xs ++ ys) ≡ ys
 behind xs ys n long = rw (← long) (drop-append_seam xs ys)
 
--- the state is told by its numbers
-module _ (tree : Tree) (row : Row) (fits : Fits tree row) where
-  sizes_of : HasSizes row (entry_count tree.bodies) (column_count tree.bodies)
-  sizes_of = record { q = fits.q; v = fits.v; a = fits.a; tau = fits.tau }
-
-  q_told : take (entry_count tree.bodies) (numbers_of row) ≡ row.q
+-- a state is told by its numbers and the sizes and the gravity of the state from which it starts
+module _ (start row : Row) (entries columns : ℕ) (starts : HasSizes start entries columns) (sizes : HasSizes row entries columns) where
+  q_told : take entries (numbers_of row) ≡ row.q
   q_told =
       let e : numbers_of row ≡ row.q ++ (row.v ++ (row.a ++ row.tau)) = simp append_assoc in
-      rw e (front row.q (row.v ++ (row.a ++ row.tau)) (entry_count tree.bodies) fits.q)
+      rw e (front row.q (row.v ++ (row.a ++ row.tau)) entries sizes.q)
 
-  v_told : take (column_count tree.bodies) (drop (entry_count tree.bodies) (numbers_of row)) ≡ row.v
+  v_told : take columns (drop entries (numbers_of row)) ≡ row.v
   v_told =
       let e : numbers_of row ≡ row.q ++ (row.v ++ (row.a ++ row.tau)) = simp append_assoc in
-      rw (e, behind row.q (row.v ++ (row.a ++ row.tau)) (entry_count tree.bodies) fits.q) (front row.v (row.a ++ row.tau) (column_count tree.bodies) fits.v)
+      rw (e, behind row.q (row.v ++ (row.a ++ row.tau)) entries sizes.q) (front row.v (row.a ++ row.tau) columns sizes.v)
 
-  a_told : take (column_count tree.bodies) (drop (entry_count tree.bodies + column_count tree.bodies) (numbers_of row)) ≡ row.a
+  a_told : take columns (drop (entries + columns) (numbers_of row)) ≡ row.a
   a_told =
       let e : numbers_of row ≡ (row.q ++ row.v) ++ (row.a ++ row.tau) = append_assoc (row.q ++ row.v) row.a row.tau in
-      rw (e, behind (row.q ++ row.v) (row.a ++ row.tau) (entry_count tree.bodies + column_count tree.bodies) (long_v row (entry_count tree.bodies) (column_count tree.bodies) 0 sizes_of))
-      (front row.a row.tau (column_count tree.bodies) fits.a)
+      rw (e, behind (row.q ++ row.v) (row.a ++ row.tau) (entries + columns) (long_v row entries columns 0 sizes)) (front row.a row.tau columns sizes.a)
 
-  tau_told : take (column_count tree.bodies) (drop (entry_count tree.bodies + column_count tree.bodies + column_count tree.bodies) (numbers_of row)) ≡ row.tau
+  tau_told : take columns (drop (entries + columns + columns) (numbers_of row)) ≡ row.tau
   tau_told =
-      rw (behind (row.q ++ row.v ++ row.a) row.tau (entry_count tree.bodies + column_count tree.bodies + column_count tree.bodies) (long_a row (entry_count tree.bodies) (column_count tree.bodies) 0 sizes_of))
-      (take_all (column_count tree.bodies) row.tau (omega (arith, fits.tau)))
+      rw (behind (row.q ++ row.v ++ row.a) row.tau (entries + columns + columns) (long_a row entries columns 0 sizes))
+      (take_all columns row.tau (omega (arith, sizes.tau)))
 
-  pub told_by_numbers : row.gravity ≡ standard_gravity → row ≡ state_of tree (numbers_of row)
-  unfolding state_of
-  told_by_numbers gravity = rw (q_told, v_told, a_told, tau_told, ← gravity) refl
-
--- a neutral state has the sizes of the robot
-pub neutral_is : (tree : Tree) (row : Row) → row ≡ neutral_under standard_gravity tree → numbers_of row ≡ neutral_numbers tree
-neutral_is tree row is = ap numbers_of is
+  pub told_by_numbers : row.gravity ≡ start.gravity → row ≡ with_numbers start (numbers_of row)
+  unfolding with_numbers
+  told_by_numbers gravity = rw (starts.q, starts.v, q_told, v_told, a_told, tau_told, ← gravity) refl
 
 pub sizes_fit : (tree : Tree) (row : Row) → HasSizes row (entry_count tree.bodies) (column_count tree.bodies) → Fits tree row
 sizes_fit tree row sizes = record { q = sizes.q; v = sizes.v; a = sizes.a; tau = sizes.tau }

@@ -9,13 +9,11 @@ use Rattle.rb_result.specs.Steps.{◌>>=◌}
 use Rattle.rb_num.specs.Interval.{Interval, zero_interval}
 use Rattle.std.specs.Prelude.{OnOk, IfErr}
 use Rattle.std.proofs.lemmas.Bool.{eq-eqb}
-use Rattle.rb_frac.specs.Ops.{V3}
-use Rattle.rb_tree.specs.Robot.{Tree}
-use Rattle.rb_tree.specs.State.{Row, Fits, at_place, neutral_under, standard_gravity}
+use Rattle.rb_tree.specs.State.{Row, at_place}
 use Rattle.rbd.specs.declared.field.FieldFault.{FieldFault}
 use Rattle.rbd.specs.declared.header.Header.{Header}
-use Rattle.rbd.specs.Fields.{is_comma, fields, field_of, numbered, brackets_of, filled, numbers_of, neutral_numbers, state_of, row_of}
-use Rattle.rbd.proofs.Numbers.{neutral_is, told_by_numbers}
+use Rattle.rbd.specs.Fields.{is_comma, fields, field_of, numbered, brackets_of, filled, numbers_of, with_numbers, HasSizes, row_of}
+use Rattle.rbd.proofs.Numbers.{told_by_numbers}
 
 pub fields_counted : (line : List ℕ) → length (fields line) ≡ count_by is_comma line + 1
 fields_counted line = length-slice_split is_comma line
@@ -171,39 +169,30 @@ on_ok : {T E : Type 0} (r : Result T E) (P Q : Type 0) → OnOk r P → (P → Q
 on_ok (Ok value) P Q h step = step h
 on_ok (Err fault) P Q h step = h
 
-pub neutral_gravity : (gravity : V3 Interval) (tree : Tree) → (neutral_under gravity tree).gravity ≡ gravity
-unfolding neutral_under
-neutral_gravity gravity tree = refl
-
--- a state that was made neutral keeps its gravity
-pub gravity_kept : (tree : Tree) (old new : Row) → old.gravity ≡ standard_gravity → new ≡ neutral_under old.gravity tree → new.gravity ≡ standard_gravity
-gravity_kept tree old new gravity is = ap (λ (row : Row). row.gravity) is ∙ neutral_gravity old.gravity tree ∙ gravity
-
-row_filled : (tree : Tree) (header : Header) (line : List ℕ) (row : Row) → length (fields line) ≡ header.count → filled header (neutral_numbers tree) (fields line) ≡ Ok (numbers_of row)
-    → row ≡ state_of tree (numbers_of row) → row_of tree header line ≡ Ok row
+row_filled : (start row : Row) (header : Header) (line : List ℕ) → length (fields line) ≡ header.count → filled header (numbers_of start) (fields line) ≡ Ok (numbers_of row)
+    → row ≡ with_numbers start (numbers_of row) → row_of start header line ≡ Ok row
 unfolding row_of
-row_filled tree header line row count is told = rw (eq-eqb _ _ count, is) (ap Ok (sym told))
+row_filled start row header line count is told = rw (eq-eqb _ _ count, is) (ap Ok (sym told))
 
--- the row is told by the numbers that were read
-pub row_told : {T E : Type 0} (r : Result T E) (tree : Tree) (header : Header) (line : List ℕ) (old neutral row : Row) → length (fields line) ≡ header.count → old.gravity ≡ standard_gravity
-    → neutral ≡ neutral_under old.gravity tree → Fits tree row → row.gravity ≡ neutral.gravity
-    → OnOk r (filled header (numbers_of neutral) (fields line) ≡ Ok (numbers_of row)) → OnOk r (row_of tree header line ≡ Ok row)
-row_told r tree header line old neutral row count gravity is fits kept read =
-    let first : neutral ≡ neutral_under standard_gravity tree = is ∙ ap (λ g. neutral_under g tree) gravity in
-    let standard : row.gravity ≡ standard_gravity = kept ∙ gravity_kept tree old neutral gravity is in
-    on_ok r _ _ read (λ filled_is. row_filled tree header line row count (ap (λ ns. filled header ns (fields line)) (sym (neutral_is tree neutral first)) ∙ filled_is) (told_by_numbers tree row fits standard))
+-- the row is told by the numbers that were read into the state from which it starts
+pub row_told : {T E : Type 0} (r : Result T E) (header : Header) (line : List ℕ) (start set row : Row) (entries columns : ℕ) → length (fields line) ≡ header.count → set ≡ start
+    → HasSizes start entries columns → HasSizes row entries columns → row.gravity ≡ set.gravity
+    → OnOk r (filled header (numbers_of set) (fields line) ≡ Ok (numbers_of row)) → OnOk r (row_of start header line ≡ Ok row)
+row_told r header line start set row entries columns count is starts sizes gravity read =
+    on_ok r _ _ read (λ filled_is.
+    subst (λ (s : Row). row_of s header line ≡ Ok row) is
+    (row_filled set row header line count filled_is (told_by_numbers set row entries columns (subst (λ (s : Row). HasSizes s entries columns) (sym is) starts) sizes gravity)))
 
-row_fails : (tree : Tree) (header : Header) (line : List ℕ) (fault : FieldFault) → length (fields line) ≡ header.count → filled header (neutral_numbers tree) (fields line) ≡ Err fault → row_of tree header line ≡ Err fault
+row_fails : (start : Row) (header : Header) (line : List ℕ) (fault : FieldFault) → length (fields line) ≡ header.count → filled header (numbers_of start) (fields line) ≡ Err fault → row_of start header line ≡ Err fault
 unfolding row_of
-row_fails tree header line fault count is = rw (eq-eqb _ _ count, is) refl
+row_fails start header line fault count is = rw (eq-eqb _ _ count, is) refl
 
 on_err : {T E : Type 0} (r : Result T E) (P Q : E → Type 0) → IfErr r P → ((e : E) → P e → Q e) → IfErr r Q
 on_err (Ok value) P Q h step = h
 on_err (Err fault) P Q h step = step fault h
 
 -- or is refused as they are
-pub row_refused : {T : Type 0} (r : Result T FieldFault) (tree : Tree) (header : Header) (line : List ℕ) (old neutral : Row) → length (fields line) ≡ header.count → old.gravity ≡ standard_gravity
-    → neutral ≡ neutral_under old.gravity tree → IfErr r (λ fault. filled header (numbers_of neutral) (fields line) ≡ Err fault) → IfErr r (λ fault. row_of tree header line ≡ Err fault)
-row_refused r tree header line old neutral count gravity is read =
-    let first : neutral ≡ neutral_under standard_gravity tree = is ∙ ap (λ g. neutral_under g tree) gravity in
-    on_err r _ _ read (λ fault failed. row_fails tree header line fault count (ap (λ ns. filled header ns (fields line)) (sym (neutral_is tree neutral first)) ∙ failed))
+pub row_refused : {T : Type 0} (r : Result T FieldFault) (header : Header) (line : List ℕ) (start set : Row) → length (fields line) ≡ header.count → set ≡ start
+    → IfErr r (λ fault. filled header (numbers_of set) (fields line) ≡ Err fault) → IfErr r (λ fault. row_of start header line ≡ Err fault)
+row_refused r header line start set count is read =
+    on_err r _ _ read (λ fault failed. subst (λ (s : Row). row_of s header line ≡ Err fault) is (row_fails set header line fault count failed))

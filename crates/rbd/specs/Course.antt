@@ -25,23 +25,23 @@ abbrev pub ending : Option RowsFault → List Answer → Result Bool Stop
 ending None answers = Ok (list_any is_refused answers)
 ending (Some fault) answers = Err (AtRows fault)
 
-abbrev pub answers_of : Tree → Rows → List Answer
-answers_of tree rows = answers_to tree (inputs_of tree rows)
+abbrev pub answers_of : Plan → Rows → List Answer
+answers_of plan rows = answers_to plan.tree (inputs_of plan.start rows)
 
 -- the first line, and a line for each row
 abbrev pub output_of : Tree → List Answer → List ℕ
 output_of tree answers = first_line tree ++ concat (lines_from 1 (column_count tree.bodies) answers)
 
 -- of the rows behind the header, and with the header
-abbrev pub course_behind : Tree → Rows → Course
-course_behind tree rows = record { answer = ending (long_line rows) (answers_of tree rows); put = concat (lines_from 1 (column_count tree.bodies) (answers_of tree rows)) }
+abbrev pub course_behind : Plan → Rows → Course
+course_behind plan rows = record { answer = ending (long_line rows) (answers_of plan rows); put = concat (lines_from 1 (column_count plan.tree.bodies) (answers_of plan rows)) }
 
-abbrev pub course_of_rows : Tree → Result Rows RowsFault → Course
-course_of_rows tree (Err fault) = stopped (AtRows fault)
-course_of_rows tree (Ok rows) = record { answer = ending (long_line rows) (answers_of tree rows); put = output_of tree (answers_of tree rows) }
+abbrev pub course_of_rows : Plan → Result Rows RowsFault → Course
+course_of_rows plan (Err fault) = stopped (AtRows fault)
+course_of_rows plan (Ok rows) = record { answer = ending (long_line rows) (answers_of plan rows); put = output_of plan.tree (answers_of plan rows) }
 
 abbrev pub course_of : Plan → List ℕ → Course
-course_of plan bytes = course_of_rows plan.tree (rows_of plan.tree bytes)
+course_of plan bytes = course_of_rows plan (rows_of plan.tree bytes)
 
 -- the course of a run: it has no plan, or goes by it
 pub data IsCourse (words : List (List ℕ)) (held : List ℕ → List ℕ) : Course → Type 0 where

@@ -12,7 +12,11 @@ use Rattle.rbd.specs.declared.status.Status.{Status}
 use Rattle.rbd.specs.declared.status.Status.TheVariants as status
 use Rattle.rb_tags.specs.Faults as Tags
 use Rattle.rb_urdf.specs.Faults as Urdf
+use Rattle.rb_srdf.specs.Faults as Srdf
 use Rattle.rb_tree.specs.Faults as Tree
+use Rattle.rb_tree.specs.Faults.{file_word}
+use Rattle.rb_tree.specs.declared.faults.WhichFile.{WhichFile}
+use Rattle.rb_tree.specs.declared.faults.WhichFile.TheVariants as file
 
 -- ---- the status
 abbrev pub status_of_stop : Stop → Status
@@ -32,17 +36,19 @@ status_of (Err stop) = status_of_stop stop
 abbrev pub usage_text : UsageFault → List ℕ
 usage_text usage.Words = codes "usage: words"
 usage_text usage.Root = codes "usage: root"
+usage_text usage.State = codes "usage: state"
 
--- what is wrong in the robot's file
-unfoldable pub in_urdf : List ℕ → List ℕ
-in_urdf text = codes "urdf: " ++ text
+-- what is wrong in a file of the robot
+unfoldable pub in_file : WhichFile → List ℕ → List ℕ
+in_file file text = file_word file ++ codes ": " ++ text
 
 abbrev pub robot_text : RobotFault → List ℕ
-robot_text robot.TooLong = in_urdf (codes "TooLong")
-robot_text (robot.Tags fault) = in_urdf (Tags.fault_text fault)
-robot_text (robot.Urdf fault) = in_urdf (Urdf.fault_text fault)
+robot_text (robot.TooLong file) = in_file file (codes "TooLong")
+robot_text (robot.Tags file fault) = in_file file (Tags.fault_text fault)
+robot_text (robot.Urdf fault) = in_file file.Urdf (Urdf.fault_text fault)
+robot_text (robot.Srdf fault) = in_file file.Srdf (Srdf.fault_text fault)
 robot_text (robot.Tree fault) = Tree.fault_text fault
-robot_text (robot.Name place) = in_urdf (codes "Unbuilt" ++ codes " at " ++ decimal place)
+robot_text (robot.Name place) = in_file file.Urdf (codes "Unbuilt" ++ codes " at " ++ decimal place)
 
 abbrev pub rows_text : RowsFault → List ℕ
 rows_text rows.TooLong = codes "rows: TooLong"

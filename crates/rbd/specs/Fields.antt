@@ -8,7 +8,7 @@ use Rattle.rb_text.specs.declared.bracket.TextFault.{TextFault}
 use Rattle.rb_text.specs.declared.bracket.TextFault.TheVariants as text
 use Rattle.rb_tree.specs.Columns.{column_count, entry_count}
 use Rattle.rb_tree.specs.Robot.{Tree}
-use Rattle.rb_tree.specs.State.{Row, neutral_under, standard_gravity}
+use Rattle.rb_tree.specs.State.{Row}
 use Rattle.rbd.specs.declared.field.FieldFault.{FieldFault}
 use Rattle.rbd.specs.declared.field.FieldKind.{FieldKind}
 use Rattle.rbd.specs.declared.field.FieldKind.TheVariants.{Count, NotNumber, Backwards, TooLarge}
@@ -52,21 +52,18 @@ brackets_of number defaults others = Ok []
 abbrev pub numbers_of : Row → List Interval
 numbers_of row = row.q ++ row.v ++ row.a ++ row.tau
 
--- the state with these numbers, under standard gravity
-unfoldable pub state_of : Tree → List Interval → Row
-state_of tree numbers =
-    let entries = entry_count tree.bodies in
-    let columns = column_count tree.bodies in
+-- the state with these numbers in the place of those of another
+unfoldable pub with_numbers : Row → List Interval → Row
+with_numbers start numbers =
+    let entries = length start.q in
+    let columns = length start.v in
     record {
       q = take entries numbers;
       v = take columns (drop entries numbers);
       a = take columns (drop (entries + columns) numbers);
       tau = take columns (drop (entries + columns + columns) numbers);
-      gravity = standard_gravity;
+      gravity = start.gravity;
     }
-
-abbrev pub neutral_numbers : Tree → List Interval
-neutral_numbers tree = numbers_of (neutral_under standard_gravity tree)
 
 -- so many entries, and so many columns
 pub record HasSizes (row : Row) (entries columns : ℕ) : Type 0 where
@@ -85,8 +82,8 @@ unfoldable pub filled : Header → List Interval → List (List ℕ) → Result 
 filled header numbers fields =
     brackets_of 1 (take header.count (drop header.first numbers)) fields >>= λ brackets. Ok (splice numbers header.first (header.first + header.count) brackets)
 
--- the state that a row line tells, neutral where it tells nothing; or what is wrong with the line
-unfoldable pub row_of : Tree → Header → List ℕ → Result Row FieldFault
-row_of tree header line =
-    if length (fields line) == header.count then (filled header (neutral_numbers tree) (fields line) >>= λ numbers. Ok (state_of tree numbers))
+-- the state that a row line tells, which starts from another; or what is wrong with the line
+unfoldable pub row_of : Row → Header → List ℕ → Result Row FieldFault
+row_of start header line =
+    if length (fields line) == header.count then (filled header (numbers_of start) (fields line) >>= λ numbers. Ok (with_numbers start numbers))
     else Err (field_fault Count (length (fields line)))

@@ -65,8 +65,8 @@ pub record IsProved (words : List (List ℕ)) (inputs : Source) (out : Stream) (
   pub lines : List (List ℕ)
   pub put : out.new ≡ out.old ++ (first_line plan.tree ++ concat lines)
   pub count : length lines ≡ length rows.lines
-  pub each : (k : ℕ) (input : Input) (line : List ℕ) → slice_get (inputs_of plan.tree rows) k ≡ Some input → slice_get lines k ≡ Some line → Means plan.tree (k + 1) input line
-  pub status : ended ≡ status_of (Ok (list_any is_refused (answers_to plan.tree (inputs_of plan.tree rows))))
+  pub each : (k : ℕ) (input : Input) (line : List ℕ) → slice_get (inputs_of plan.start rows) k ≡ Some input → slice_get lines k ≡ Some line → Means plan.tree (k + 1) input line
+  pub status : ended ≡ status_of (Ok (list_any is_refused (answers_to plan.tree (inputs_of plan.start rows))))
 
 abbrev pub Headline : List (List ℕ) → Source → Stream → Status → Type 0
 Headline words inputs out ended = IsTold inputs out ended → IsProved words inputs out ended

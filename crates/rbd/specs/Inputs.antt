@@ -50,8 +50,8 @@ abbrev pub Input : Type 0
 Input = Result Row FieldFault
 
 -- the rows before the first line that is too long
-unfoldable pub inputs_of : Tree → Rows → List Input
-inputs_of tree rows = map (λ line. row_of tree rows.header line.content) (take_while is_short rows.lines)
+unfoldable pub inputs_of : Row → Rows → List Input
+inputs_of start rows = map (λ line. row_of start rows.header line.content) (take_while is_short rows.lines)
 
 -- that line, by its row
 unfoldable pub long_line : Rows → Option RowsFault

@@ -1,15 +1,17 @@
 -- What a run does to what is outside, and what its status says.
-use Rattle.std.specs.Prelude.{◌≡◌, ◌≢◌, ◌⊎◌, ◌<◌, ℕ, List, ◌++◌, Bool, true, false, IsTrue, Result, Ok, Err}
+use Rattle.std.specs.Prelude.{◌≡◌, ◌≢◌, ◌⊎◌, ◌<◌, ℕ, List, ◌++◌, Bool, true, false, IsTrue, Some, Result, Ok, Err}
 use Rattle.rb_io.specs.Outside.{Rose}
 use Rattle.rb_io.specs.Calls.{PutsPart}
+use Rattle.rb_tree.specs.declared.faults.WhichFile.{WhichFile}
 use Rattle.rbd.specs.declared.stop.UsageFault.{UsageFault}
+use Rattle.rbd.specs.declared.stop.UsageFault.TheVariants.{State}
 use Rattle.rbd.specs.declared.stop.RobotFault.TheVariants as robot
 use Rattle.rbd.specs.declared.stop.RowsFault.TheVariants as rows
 use Rattle.rbd.specs.declared.stop.Stop.{Stop}
 use Rattle.rbd.specs.declared.stop.Stop.TheVariants.{Usage, Robot, Rows, Input, Output, Memory}
 use Rattle.rbd.specs.declared.status.Status.{Status}
 use Rattle.rbd.specs.declared.status.Status.TheVariants as status
-use Rattle.rbd.specs.Words.{command_of}
+use Rattle.rbd.specs.Words.{Command, command_of}
 use Rattle.rbd.specs.Plan.{most_file}
 use Rattle.rbd.specs.Inputs.{most_rows}
 use Rattle.rbd.specs.Course.{Course, IsCourse}
@@ -75,12 +77,24 @@ pub record HasCourse (words : List (List ℕ)) (held : List ℕ → List ℕ) (o
   pub follows : Follows course out answer
 
 -- ---- a run
+-- the words name a state
+pub record NamesState (words : List (List ℕ)) : Type 0 where
+  pub command : Command
+  pub told : command_of words ≡ Ok command
+  pub name : List ℕ
+  pub named : command.state ≡ Some name
+
+-- the words do not fit, or name a state that may be unknown
+abbrev pub IsUsage : List (List ℕ) → UsageFault → Type 0
+IsUsage words State = NamesState words
+IsUsage words fault = command_of words ≡ Err fault
+
 -- the steps of a run up to its answer. The causes in the words, in the counts and in the number of bytes given stand also where the inputs do not
 -- tell their bytes.
 pub record Goes (words : List (List ℕ)) (inputs : Source) (out : Stream) (answer : Result Bool Stop) : Type 0 where
-  pub usage : (fault : UsageFault) → answer ≡ Err (Usage fault) → command_of words ≡ Err fault
+  pub usage : (fault : UsageFault) → answer ≡ Err (Usage fault) → IsUsage words fault
   pub usage_always : (fault : UsageFault) → command_of words ≡ Err fault → (answer ≡ Err (Usage fault)) ⊎ (answer ≡ Err Memory)
-  pub long_file : answer ≡ Err (Robot robot.TooLong) → most_file < inputs.given
+  pub long_file : (file : WhichFile) → answer ≡ Err (Robot (robot.TooLong file)) → most_file < inputs.given
   pub long_rows : answer ≡ Err (Rows rows.TooLong) → most_rows < inputs.given
   pub input : Counts Input answer inputs.before inputs.after
   pub output : Counts Output answer out.before out.after

@@ -5,6 +5,10 @@ use Rattle.rb_tags.specs.declared.read.TagKind.TheVariants as tags
 use Rattle.rb_urdf.specs.declared.faults.UrdfFault.{UrdfFault}
 use Rattle.rb_urdf.specs.declared.faults.UrdfFaultKind.{UrdfFaultKind}
 use Rattle.rb_urdf.specs.declared.faults.UrdfFaultKind.TheVariants as urdf
+use Rattle.rb_srdf.specs.declared.faults.SrdfFault.{SrdfFault}
+use Rattle.rb_srdf.specs.declared.faults.SrdfFaultKind.{SrdfFaultKind}
+use Rattle.rb_srdf.specs.declared.faults.SrdfFaultKind.TheVariants as srdf
+use Rattle.rb_tree.specs.declared.faults.WhichFile.{WhichFile}
 use Rattle.rb_tree.specs.declared.faults.TreeFault.{TreeFault}
 use Rattle.rb_tree.specs.declared.faults.TreeKind.{TreeKind}
 use Rattle.rb_tree.specs.declared.faults.TreeKind.TheVariants as tree
@@ -18,8 +22,11 @@ use Rattle.rbd.specs.declared.stop.ReadStop.{ReadStop}
 use Rattle.rbd.specs.declared.stop.ReadStop.TheVariants as read
 use Rattle.rbd.specs.declared.stop.RowsStop.{RowsStop}
 use Rattle.rbd.specs.declared.stop.RowsStop.TheVariants as rows
+use Rattle.rbd.specs.declared.stop.StartStop.{StartStop}
+use Rattle.rbd.specs.declared.stop.StartStop.TheVariants as start
+use Rattle.rbd.specs.declared.stop.UsageFault.TheVariants.{State}
 use Rattle.rbd.specs.declared.stop.Stop.{Stop}
-use Rattle.rbd.specs.declared.stop.Stop.TheVariants.{Rows, Input, Output, Memory}
+use Rattle.rbd.specs.declared.stop.Stop.TheVariants.{Usage, Rows, Input, Output, Memory}
 
 -- a fact of the fault, where there is one
 abbrev pub IfRefused : {F : Type 0} → (F → Type 0) → Refusal F → Type 0
@@ -32,13 +39,13 @@ IfFault P read.Input = Unit {0}
 IfFault P read.Memory = Unit {0}
 
 -- ---- the parts of reading a robot
--- want of memory where the kind of a fault says so, and what is wrong with the robot's file where it is another
+-- want of memory where the kind of a fault says so, and what is wrong with the robot's files where it is another
 abbrev pub tags_kind : TagKind → RobotFault → Refusal RobotFault
 tags_kind tags.Memory fault = refusal.Memory
 tags_kind kind fault = refusal.Fault fault
 
-abbrev pub refusal_of_tags : TagFault → Refusal RobotFault
-refusal_of_tags fault = tags_kind fault.kind (robot.Tags fault)
+abbrev pub refusal_of_tags : WhichFile → TagFault → Refusal RobotFault
+refusal_of_tags file fault = tags_kind fault.kind (robot.Tags file fault)
 
 abbrev pub urdf_kind : UrdfFaultKind → RobotFault → Refusal RobotFault
 urdf_kind urdf.Memory fault = refusal.Memory
@@ -46,6 +53,13 @@ urdf_kind kind fault = refusal.Fault fault
 
 abbrev pub refusal_of_urdf : UrdfFault → Refusal RobotFault
 refusal_of_urdf fault = urdf_kind fault.kind (robot.Urdf fault)
+
+abbrev pub srdf_kind : SrdfFaultKind → RobotFault → Refusal RobotFault
+srdf_kind srdf.Memory fault = refusal.Memory
+srdf_kind kind fault = refusal.Fault fault
+
+abbrev pub refusal_of_srdf : SrdfFault → Refusal RobotFault
+refusal_of_srdf fault = srdf_kind fault.kind (robot.Srdf fault)
 
 abbrev pub tree_kind : TreeKind → RobotFault → Refusal RobotFault
 tree_kind tree.Memory fault = refusal.Memory
@@ -59,6 +73,11 @@ stop_of_refusal (refusal.Fault fault) = read.Fault fault
 stop_of_refusal refusal.Memory = read.Memory
 
 -- ---- the stops of a run
+-- the stop for a state that the robot has not
+abbrev pub stop_of_start : StartStop → Stop
+stop_of_start start.NoState = Usage State
+stop_of_start start.Memory = Memory
+
 -- the stop for a fault of reading a name whole, where `long` is that of a name that holds too much
 abbrev pub file_stop : {F : Type 0} → FileFault → F → ReadStop F
 file_stop file.TooLong long = read.Fault long

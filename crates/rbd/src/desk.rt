@@ -5,6 +5,7 @@ ghost use Rattle.rbd.specs.Answer.{answer_to, is_refused, line_of};
 ghost use Rattle.rbd.specs.Desk.{IsDeskOf};
 ghost use Rattle.rbd.specs.Fields.{row_of, IsWithin};
 ghost use Rattle.rb_tree.specs.Places.{IsFor};
+ghost use Rattle.rb_tree.specs.State.{Fits};
 ghost use Rattle.rb_rnea.specs.Dynamics.{torques_in};
 
 use crate::cause::Cause;
@@ -44,15 +45,22 @@ impl Desk {
     }
 
     /// Answers a row: its torques are then in the work.
-    fn answer(&mut self, robot: &Robot, header: Header, row: &[u8]) -> Result<(), Cause>
+    fn answer(
+        &mut self,
+        robot: &Robot,
+        start: &State,
+        header: Header,
+        row: &[u8],
+    ) -> Result<(), Cause>
         requires desk { IsDeskOf robot.now self.old }
+        requires start { Fits robot.now start.now }
         requires within { IsWithin robot.now header }
         requires short { length row.now ≤ 65536 }
-        ensures ok { OnOk result (answer_to robot.now (row_of robot.now header row.now) ≡ Ok (torques_in robot.now self.new.work)) }
-        ensures err { IfErr result (λ cause. answer_to robot.now (row_of robot.now header row.now) ≡ Err cause) }
+        ensures ok { OnOk result (answer_to robot.now (row_of start.now header row.now) ≡ Ok (torques_in robot.now self.new.work)) }
+        ensures err { IfErr result (λ cause. answer_to robot.now (row_of start.now header row.now) ≡ Err cause) }
         ensures desk { IsDeskOf robot.now self.new }
     {
-        if let Err(fault) = read_row(robot, header, row, &mut self.state) {
+        if let Err(fault) = read_row(robot, start, header, row, &mut self.state) {
             return Err(Cause::Field(fault));
         }
         match rnea(robot, &self.state, &mut self.work) {
@@ -65,18 +73,20 @@ impl Desk {
     pub(crate) fn make_line(
         &mut self,
         robot: &Robot,
+        start: &State,
         header: Header,
         number: u64,
         row: &[u8],
     ) -> bool
         requires desk { IsDeskOf robot.now self.old }
+        requires start { Fits robot.now start.now }
         requires within { IsWithin robot.now header }
         requires short { length row.now ≤ 65536 }
-        ensures bytes { self.new.line.bytes ≡ line_of number (column_count robot.now.bodies) (answer_to robot.now (row_of robot.now header row.now)) }
-        ensures refused { result ≡ is_refused (answer_to robot.now (row_of robot.now header row.now)) }
+        ensures bytes { self.new.line.bytes ≡ line_of number (column_count robot.now.bodies) (answer_to robot.now (row_of start.now header row.now)) }
+        ensures refused { result ≡ is_refused (answer_to robot.now (row_of start.now header row.now)) }
         ensures desk { IsDeskOf robot.now self.new }
     {
-        let answer = self.answer(robot, header, row);
+        let answer = self.answer(robot, start, header, row);
         self.line.clear();
         match answer {
             Ok(()) => {

@@ -1,13 +1,13 @@
 //! The status and the line on standard error of an answer.
 ghost use Rattle.std.specs.Prelude.{◌≡◌, ◌≤◌, ◌+◌, ◌++◌, ◌∷◌, [], length, codes, decimal, Result, Ok, Err};
 ghost use Rattle.rb_tree.specs.Faults.{fault_text as tree_text};
-ghost use Rattle.rbd.specs.Ends.{status_of, usage_text, in_urdf, robot_text, rows_text, stop_text, text_of};
+ghost use Rattle.rbd.specs.Ends.{status_of, usage_text, in_file, robot_text, rows_text, stop_text, text_of};
 
 use crate::line::put_number;
 use crate::status::Status;
 use crate::stop::{RobotFault, RowsFault, Stop, UsageFault};
 use rb_text::Out;
-use rb_tree::TreeFault;
+use rb_tree::{TreeFault, WhichFile};
 
 /// The status of an answer.
 pub(crate) fn status(answer: &Result<bool, Stop>) -> Status
@@ -40,21 +40,34 @@ fn usage_word(fault: UsageFault) -> &'static [u8]
     match fault {
         UsageFault::Words => b"usage: words",
         UsageFault::Root => b"usage: root",
+        UsageFault::State => b"usage: state",
     }
 }
 
-// Puts a word and a place of the robot's file.
-#[tactic(auto, using(std::proofs::Common::append_assoc), unfolding(crate::specs::Ends::in_urdf))]
-fn put_placed(word: &[u8], place: u64, line: &mut Out)
+// Puts a word and a place of a file of the robot.
+#[tactic(auto, using(std::proofs::Common::append_assoc), unfolding(crate::specs::Ends::in_file))]
+fn put_placed(file: WhichFile, word: &[u8], place: u64, line: &mut Out)
     requires short { length word.now ≤ 20 }
     requires room { 50 ≤ line.old.spare }
-    ensures bytes { line.new.bytes ≡ line.old.bytes ++ in_urdf (word.now ++ codes " at " ++ decimal place) }
+    ensures bytes { line.new.bytes ≡ line.old.bytes ++ in_file file (word.now ++ codes " at " ++ decimal place) }
     ensures spare { line.old.spare ≤ line.new.spare + 50 }
 {
-    line.put(b"urdf: ");
+    line.put(file.word().as_bytes());
+    line.put(b": ");
     line.put(word);
     line.put(b" at ");
     put_number(place, line);
+}
+
+// Puts that a file of the robot is too long.
+#[tactic(auto, using(std::proofs::Common::append_assoc), unfolding(crate::specs::Ends::in_file))]
+fn put_too_long(file: WhichFile, line: &mut Out)
+    requires { 50 ≤ line.old.spare }
+    ensures bytes { line.new.bytes ≡ line.old.bytes ++ in_file file (codes "TooLong") }
+    ensures spare { line.old.spare ≤ line.new.spare + 50 }
+{
+    line.put(file.word().as_bytes());
+    line.put(b": TooLong");
 }
 
 // Puts a fault of the tree: its file, its word and its place.
@@ -71,18 +84,33 @@ fn put_tree_fault(fault: TreeFault, line: &mut Out)
     put_number(fault.at, line);
 }
 
-#[tactic(auto, unfolding(crate::specs::Ends::in_urdf))]
 fn put_robot_fault(fault: &RobotFault, line: &mut Out)
     requires { 60 ≤ line.old.spare }
     ensures bytes { line.new.bytes ≡ line.old.bytes ++ robot_text fault.now }
     ensures spare { line.old.spare ≤ line.new.spare + 60 }
 {
     match fault {
-        RobotFault::TooLong => line.put(b"urdf: TooLong"),
-        RobotFault::Tags(fault) => put_placed(fault.kind.word().as_bytes(), fault.at, line),
-        RobotFault::Urdf(fault) => put_placed(fault.kind.word().as_bytes(), fault.at, line),
+        RobotFault::TooLong(file) => put_too_long(*file, line),
+        RobotFault::Tags(file, fault) => put_placed(
+            *file,
+            fault.kind.word().as_bytes(),
+            fault.at,
+            line,
+        ),
+        RobotFault::Urdf(fault) => put_placed(
+            WhichFile::Urdf,
+            fault.kind.word().as_bytes(),
+            fault.at,
+            line,
+        ),
+        RobotFault::Srdf(fault) => put_placed(
+            WhichFile::Srdf,
+            fault.kind.word().as_bytes(),
+            fault.at,
+            line,
+        ),
         RobotFault::Tree(fault) => put_tree_fault(*fault, line),
-        RobotFault::Name(place) => put_placed(b"Unbuilt", *place, line),
+        RobotFault::Name(place) => put_placed(WhichFile::Urdf, b"Unbuilt", *place, line),
     }
 }
 

@@ -1,6 +1,6 @@
 //! The fields of a row, and the state that they tell.
 ghost use Rattle.std.specs.Prelude.{◌≡◌, ◌≤◌, ◌<◌, ◌+◌, ◌^◌, ◌∷◌, [], IsTrue, length, position, count_by, OnOk, IfErr, Ok, Err, slice_set};
-ghost use Rattle.rb_tree.specs.State.{Fits, standard_gravity, at_place};
+ghost use Rattle.rb_tree.specs.State.{Fits, at_place};
 ghost use Rattle.rbd.specs.Fields.{is_comma, fields, field_of, kind_of, numbered, numbers_of, filled, row_of, HasSizes, IsWithin};
 
 use crate::field::{FieldFault, FieldKind};
@@ -142,26 +142,26 @@ fn read_fields(
     Ok(())
 }
 
-/// Reads a row: a number for each column of the header, in order, where an empty field leaves the neutral one. Columns that the header does not name
-/// are neutral too.
+/// Reads a row: a number for each column of the header, in order, where an empty field leaves that of the state from which rows start. So do columns
+/// that the header does not name.
 ///
 /// It is refused with `Count` where the line has not one field for each of these columns, and else for its first bad field. The state then has any
 /// numbers.
 #[tactic(auto, unfolding(crate::specs::Fields::row_of))]
 pub(crate) fn read_row(
     robot: &Robot,
+    start: &State,
     header: Header,
     line: &[u8],
     state: &mut State,
 ) -> Result<(), FieldFault>
     requires within { IsWithin robot.now header }
     requires short { length line.now ≤ 65536 }
+    requires start { Fits robot.now start.now }
     requires fits { Fits robot.now state.old }
-    requires gravity { state.old.gravity ≡ standard_gravity }
-    ensures ok { OnOk result (row_of robot.now header line.now ≡ Ok state.new) }
-    ensures err { IfErr result (λ fault. row_of robot.now header line.now ≡ Err fault) }
+    ensures ok { OnOk result (row_of start.now header line.now ≡ Ok state.new) }
+    ensures err { IfErr result (λ fault. row_of start.now header line.now ≡ Err fault) }
     ensures fits { Fits robot.now state.new }
-    ensures gravity { state.new.gravity ≡ standard_gravity }
 {
     let count = field_count(line);
     if count != header.count {
@@ -170,7 +170,7 @@ pub(crate) fn read_row(
             field: count as u32,
         });
     }
-    state.set_neutral(robot);
+    state.set_to(start);
     read_fields(
         header,
         robot.nq() as usize,

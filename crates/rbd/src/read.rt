@@ -1,15 +1,27 @@
-//! Reading the robot's file and the rows whole.
-ghost use Rattle.std.specs.Prelude.{◌≡◌, ◌≤◌, ◌<◌, IsTrue, IsErrOf, OnOk, length, codes, find, option_map, Option, Some, None, IfOk, IfErr, Result, Ok, Err};
+//! Reading the robot's files and the rows whole.
+ghost use Rattle.std.specs.Prelude.{◌≡◌, ℕ, ◌≤◌, ◌<◌, ◌⊎◌, IsTrue, IsErrOf, OnOk, length, codes, find, option_map, option_copied, Option, Some, None, IfOk, IfErr, Result, Ok, Err};
 ghost use Rattle.std.specs.Str.{IsUtf8};
+ghost use Rattle.std.specs.Option.{IsSomeAnd};
+ghost use Rattle.rb_result.specs.Steps.{told_as};
 ghost use Rattle.rb_io.specs.Outside.{Rose};
-ghost use Rattle.rbd.specs.Plan.{is_plain, odd_link, odd_joint, earlier, odd_name, urdf_in, IsRobotOf, IsRefused, most_file};
+ghost use Rattle.rb_urdf.specs.Urdf.{urdf_of};
+ghost use Rattle.rb_srdf.specs.Groups.{HoldsItself};
+ghost use Rattle.rb_srdf.specs.Read.{semantics_of};
+ghost use Rattle.rb_tree.specs.declared.faults.WhichFile.{WhichFile as Which};
+ghost use Rattle.rb_tree.specs.Build.{IsBuilt};
+ghost use Rattle.rb_tree.specs.Robot.{AreBodies};
+ghost use Rattle.rb_tree.specs.State.{Fits};
+ghost use Rattle.rb_tree.specs.States.{HasState};
+ghost use Rattle.rbd.specs.Plan.{is_plain, odd_link, odd_joint, earlier, odd_name, tags_in, urdf_in, files, IsSemanticsIn, HasNoSemantics, IsRefusedBy, IsUnfit, IsRobotOf, IsRefused, IsStart, most_file};
 ghost use Rattle.rbd.specs.Inputs.{most_rows};
 ghost use Rattle.rbd.specs.Stops.{IfFault, IfRefused, file_stop};
 
-use crate::stop::{ReadStop, Refusal, RobotFault, RowsFault};
+use crate::stop::{ReadStop, Refusal, RobotFault, RowsFault, StartStop, of_tags};
+use crate::words::Command;
 use rb_io::{Bytes, FileFault, Inputs, read_all};
-use rb_tags::{RootKind, read_tags};
-use rb_tree::Robot;
+use rb_srdf::{Srdf, read_srdf};
+use rb_tags::{RootKind, Tags, read_tags};
+use rb_tree::{Robot, State, WhichFile};
 use rb_urdf::{UrdfJoint, UrdfLink, UrdfRobot, read_urdf};
 use std::alloc::Global;
 
@@ -80,16 +92,96 @@ fn odd_name(urdf: &UrdfRobot) -> Option<u64>
     )
 }
 
-/// The links and joints that a file's bytes hold.
-#[tactic(auto, unfolding(crate::specs::Plan::urdf_in))]
-fn urdf_of_bytes(alloc: Global, bytes: &[u8]) -> Result<UrdfRobot, Refusal<RobotFault>>
+/// The tags that a file's bytes hold.
+#[tactic(auto, unfolding(crate::specs::Plan::tags_in))]
+fn tags_of_bytes(alloc: Global, bytes: &[u8], file: WhichFile) -> Result<Tags, Refusal<RobotFault>>
     requires { length bytes.now ≤ most_file }
-    ensures ok { IfOk result (λ urdf. urdf_in bytes.now ≡ Ok urdf) }
-    ensures err { IfErr result (IfRefused (λ fault. urdf_in bytes.now ≡ Err fault)) }
+    ensures ok { IfOk result (λ tags. tags_in file bytes.now ≡ Ok tags) }
+    ensures err { IfErr result (IfRefused (λ fault. tags_in file bytes.now ≡ Err fault)) }
     ensures memory { IsErrOf result Refusal.Memory → IsUtf8 bytes.now }
 {
-    let tags = read_tags(alloc, bytes)?;
-    Ok(read_urdf(alloc, &tags)?)
+    match read_tags(alloc, bytes) {
+        Ok(tags) => Ok(tags),
+        Err(fault) => Err(of_tags(file, fault)),
+    }
+}
+
+/// Reads the tags of a file.
+fn read_tags_of<I: Inputs>(
+    alloc: Global,
+    inputs: &mut I,
+    name: &str,
+    file: WhichFile,
+) -> Result<Tags, ReadStop<RobotFault>>
+    ensures tells { I.tells inputs.new ≡ I.tells inputs.old }
+    ensures holds { I.holds inputs.new ≡ I.holds inputs.old }
+    ensures tags { IsTrue (I.tells inputs.old) → IfOk result (λ tags. tags_in file (I.holds inputs.old name.now) ≡ Ok tags) }
+    ensures refused { IsTrue (I.tells inputs.old) → IfErr result (IfFault (λ fault. tags_in file (I.holds inputs.old name.now) ≡ Err fault)) }
+    ensures long { (which : Which) → IsErrOf result (ReadStop.Fault (RobotFault.TooLong which)) → most_file < I.given inputs.new }
+    ensures rose { IsErrOf result ReadStop.Input → Rose (I.faults inputs.old) (I.faults inputs.new) }
+    ensures kept { ¬ (IsErrOf result ReadStop.Input) → I.faults inputs.new ≡ I.faults inputs.old }
+{
+    let bytes = match read_all(alloc, inputs, name, MOST_FILE) {
+        Ok(bytes) => bytes,
+        Err(fault) => return Err(file_stop(fault, RobotFault::TooLong(file))),
+    };
+    Ok(tags_of_bytes(alloc, bytes.as_slice(), file)?)
+}
+
+/// The links and joints that tags tell.
+fn urdf_of_tags(alloc: Global, tags: &Tags) -> Result<UrdfRobot, Refusal<RobotFault>>
+    ensures ok { IfOk result (λ urdf. urdf_of tags.now ≡ Ok urdf) }
+    ensures err { IfErr result (IfRefused (λ fault. told_as RobotFault.Urdf (urdf_of tags.now) ≡ Err fault)) }
+{
+    Ok(read_urdf(alloc, tags)?)
+}
+
+/// Reads the links and joints of a file.
+fn read_urdf_of<I: Inputs>(
+    alloc: Global,
+    inputs: &mut I,
+    name: &str,
+) -> Result<UrdfRobot, ReadStop<RobotFault>>
+    ensures tells { I.tells inputs.new ≡ I.tells inputs.old }
+    ensures holds { I.holds inputs.new ≡ I.holds inputs.old }
+    ensures urdf { IsTrue (I.tells inputs.old) → IfOk result (λ urdf. urdf_in (I.holds inputs.old name.now) ≡ Ok urdf) }
+    ensures refused { IsTrue (I.tells inputs.old) → IfErr result (IfFault (λ fault. urdf_in (I.holds inputs.old name.now) ≡ Err fault)) }
+    ensures long { (which : Which) → IsErrOf result (ReadStop.Fault (RobotFault.TooLong which)) → most_file < I.given inputs.new }
+    ensures rose { IsErrOf result ReadStop.Input → Rose (I.faults inputs.old) (I.faults inputs.new) }
+    ensures kept { ¬ (IsErrOf result ReadStop.Input) → I.faults inputs.new ≡ I.faults inputs.old }
+{
+    let tags = read_tags_of(alloc, inputs, name, WhichFile::Urdf)?;
+    Ok(urdf_of_tags(alloc, &tags)?)
+}
+
+/// The groups, states and virtual joints that tags tell.
+fn srdf_of_tags(alloc: Global, tags: &Tags) -> Result<Srdf, Refusal<RobotFault>>
+    ensures ok { IfOk result (λ srdf. semantics_of tags.now ≡ Ok srdf) }
+    ensures no_loop { IfOk result (λ srdf. (k : ℕ) → HoldsItself srdf.groups k → ⊥) }
+    ensures err { IfErr result (IfRefused (IsRefusedBy tags.now)) }
+{
+    Ok(read_srdf(alloc, tags)?)
+}
+
+/// Reads the groups, states and virtual joints of a file, where its name is given.
+fn read_srdf_of<I: Inputs>(
+    alloc: Global,
+    inputs: &mut I,
+    name: Option<&str>,
+) -> Result<Option<Srdf>, ReadStop<RobotFault>>
+    ensures tells { I.tells inputs.new ≡ I.tells inputs.old }
+    ensures holds { I.holds inputs.new ≡ I.holds inputs.old }
+    ensures srdf { IsTrue (I.tells inputs.old) → IfOk result (IsSemanticsIn (option_map (λ name. I.holds inputs.old name) (option_copied name.entry))) }
+    ensures refused { IsTrue (I.tells inputs.old) → IfErr result (IfFault (HasNoSemantics (option_map (λ name. I.holds inputs.old name) (option_copied name.entry)))) }
+    ensures long { (which : Which) → IsErrOf result (ReadStop.Fault (RobotFault.TooLong which)) → most_file < I.given inputs.new }
+    ensures rose { IsErrOf result ReadStop.Input → Rose (I.faults inputs.old) (I.faults inputs.new) }
+    ensures kept { ¬ (IsErrOf result ReadStop.Input) → I.faults inputs.new ≡ I.faults inputs.old }
+{
+    let Some(name) = name else {
+        return Ok(None);
+    };
+    let tags = read_tags_of(alloc, inputs, name, WhichFile::Srdf)?;
+    Ok(Some(srdf_of_tags(alloc, &tags)?))
 }
 
 /// That the names of all links and joints are plain; else the place of the first that is not.
@@ -103,44 +195,57 @@ fn all_plain(urdf: &UrdfRobot) -> Result<(), RobotFault>
     }
 }
 
-/// The robot that a file's bytes hold, with this kind of root.
-fn robot_of_bytes(
+/// The robot of links and joints, with groups, states and virtual joints where they are given, and with this kind of root.
+fn robot_of(
     alloc: Global,
-    bytes: &[u8],
+    urdf: &UrdfRobot,
+    srdf: Option<&Srdf>,
     root: Option<RootKind>,
 ) -> Result<Robot, Refusal<RobotFault>>
-    requires { length bytes.now ≤ most_file }
-    ensures ok { IfOk result (IsRobotOf root bytes.now) }
-    ensures err { IfErr result (IfRefused (IsRefused root bytes.now)) }
-    ensures memory { IsErrOf result Refusal.Memory → IsUtf8 bytes.now }
+    ensures ok { IfOk result (IsBuilt (record { urdf = urdf.now; srdf = option_copied srdf.entry; root = root })) }
+    ensures kept { IfOk result (λ robot. AreBodies robot.bodies) }
+    ensures plain { OnOk result (odd_name urdf.now ≡ None) }
+    ensures err { IfErr result (IfRefused (IsUnfit (record { urdf = urdf.now; srdf = option_copied srdf.entry; root = root }))) }
 {
-    let urdf = urdf_of_bytes(alloc, bytes)?;
-    let robot = Robot::build(alloc, &urdf, root)?;
+    let robot = Robot::build(alloc, urdf, srdf, root)?;
     let _bodies = robot.bodies();
-    all_plain(&urdf)?;
+    all_plain(urdf)?;
     Ok(robot)
 }
 
-/// Reads the robot of a file.
+/// Reads the robot that words name.
 pub(crate) fn read_robot<I: Inputs>(
     alloc: Global,
     inputs: &mut I,
-    name: &str,
-    root: Option<RootKind>,
+    command: Command<'_>,
 ) -> Result<Robot, ReadStop<RobotFault>>
     ensures tells { I.tells inputs.new ≡ I.tells inputs.old }
     ensures holds { I.holds inputs.new ≡ I.holds inputs.old }
-    ensures robot { IsTrue (I.tells inputs.old) → IfOk result (IsRobotOf root (I.holds inputs.old name.now)) }
-    ensures refused { IsTrue (I.tells inputs.old) → IfErr result (IfFault (IsRefused root (I.holds inputs.old name.now))) }
-    ensures long { IsErrOf result (ReadStop.Fault RobotFault.TooLong) → most_file < I.given inputs.new }
+    ensures robot { IsTrue (I.tells inputs.old) → IfOk result (IsRobotOf command.entry.root (files (I.holds inputs.old) command.entry.file.now (option_copied command.entry.srdf))) }
+    ensures refused { IsTrue (I.tells inputs.old) → IfErr result (IfFault (IsRefused command.entry.root (files (I.holds inputs.old) command.entry.file.now (option_copied command.entry.srdf)))) }
+    ensures long { (which : Which) → IsErrOf result (ReadStop.Fault (RobotFault.TooLong which)) → most_file < I.given inputs.new }
     ensures rose { IsErrOf result ReadStop.Input → Rose (I.faults inputs.old) (I.faults inputs.new) }
     ensures kept { ¬ (IsErrOf result ReadStop.Input) → I.faults inputs.new ≡ I.faults inputs.old }
 {
-    let bytes = match read_all(alloc, inputs, name, MOST_FILE) {
-        Ok(bytes) => bytes,
-        Err(fault) => return Err(file_stop(fault, RobotFault::TooLong)),
+    let urdf = read_urdf_of(alloc, inputs, command.file)?;
+    let srdf = read_srdf_of(alloc, inputs, command.srdf)?;
+    Ok(robot_of(alloc, &urdf, srdf.as_ref(), command.root)?)
+}
+
+/// The state that rows start from: the neutral one, or where a name is told the one of the group states of the name.
+pub(crate) fn start_of(alloc: Global, robot: &Robot, name: Option<&str>) -> Result<State, StartStop>
+    ensures ok { IfOk result (IsStart robot.now (option_copied name.entry)) }
+    ensures fits { IfOk result (Fits robot.now) }
+    ensures err { IfErr result (λ stop. (stop ≡ StartStop.Memory) ⊎ ((stop ≡ StartStop.NoState) × IsSomeAnd (option_copied name.entry) (λ name. HasState robot.now.states name → ⊥))) }
+{
+    let mut start = State::new(alloc, robot)?;
+    let Some(name) = name else {
+        return Ok(start);
     };
-    Ok(robot_of_bytes(alloc, bytes.as_slice(), root)?)
+    match start.set_named(robot, name.as_bytes()) {
+        Ok(()) => Ok(start),
+        Err(_) => Err(StartStop::NoState),
+    }
 }
 
 /// Reads the rows.

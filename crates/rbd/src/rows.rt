@@ -5,6 +5,7 @@ ghost use Rattle.rb_io.specs.Calls.{PutsPart};
 ghost use Rattle.rb_result.specs.Steps.{told_as};
 ghost use Rattle.rb_tree.specs.Columns.{column_count};
 ghost use Rattle.rb_tree.specs.Robot.{Tree};
+ghost use Rattle.rb_tree.specs.State.{Fits};
 ghost use Rattle.rbd.specs.Answer.{answer_to, is_refused, line_of};
 ghost use Rattle.rbd.specs.Columns.{first_line as first_line_of};
 ghost use Rattle.rbd.specs.Course.{course_behind, course_of_rows};
@@ -12,6 +13,7 @@ ghost use Rattle.rbd.specs.Cut.{line, lines_of};
 ghost use Rattle.rbd.specs.Desk.{IsDeskOf};
 ghost use Rattle.rbd.specs.Fields.{row_of, IsWithin};
 ghost use Rattle.rbd.specs.Inputs.{most_line, most_rows, rows as rows_in, rows_of_lines};
+ghost use Rattle.rbd.specs.Plan.{plan};
 ghost use Rattle.rbd.specs.Run.{stream, Follows};
 ghost use Rattle.rbd.specs.Stops.{stop_of_rows};
 
@@ -21,7 +23,7 @@ use crate::header::Header;
 use crate::lines::{Cut, next_line};
 use crate::stop::{RowsFault, RowsStop};
 use rb_io::{Sink, put_all};
-use rb_tree::Robot;
+use rb_tree::{Robot, State};
 use std::alloc::{AllocError, Global};
 
 /// The most bytes of a line, without its LF.
@@ -46,6 +48,7 @@ fn put<O: Sink>(bytes: &[u8], out: &mut O) -> Result<(), RowsStop>
 #[tactic(auto, using(rb_io::proofs::Parts::part_whole))]
 fn put_row<O: Sink>(
     robot: &Robot,
+    start: &State,
     header: Header,
     number: u64,
     row: &[u8],
@@ -53,18 +56,19 @@ fn put_row<O: Sink>(
     out: &mut O,
 ) -> Result<bool, RowsStop>
     requires desk { IsDeskOf robot.now desk.old }
+    requires start { Fits robot.now start.now }
     requires within { IsWithin robot.now header }
     requires short { length row.now ≤ 65536 }
     ensures desk { IsDeskOf robot.now desk.new }
     ensures tells { IsTrue (O.tells out.new) → IsTrue (O.tells out.old) }
-    ensures refused { IfOk result (λ refused. refused ≡ is_refused (answer_to robot.now (row_of robot.now header row.now))) }
-    ensures whole { IsTrue (O.tells out.new) → OnOk result (O.put out.new ≡ O.put out.old ++ line_of number (column_count robot.now.bodies) (answer_to robot.now (row_of robot.now header row.now))) }
-    ensures part { IsTrue (O.tells out.new) → PutsPart (O.put out.old) (O.put out.new) (line_of number (column_count robot.now.bodies) (answer_to robot.now (row_of robot.now header row.now))) }
+    ensures refused { IfOk result (λ refused. refused ≡ is_refused (answer_to robot.now (row_of start.now header row.now))) }
+    ensures whole { IsTrue (O.tells out.new) → OnOk result (O.put out.new ≡ O.put out.old ++ line_of number (column_count robot.now.bodies) (answer_to robot.now (row_of start.now header row.now))) }
+    ensures part { IsTrue (O.tells out.new) → PutsPart (O.put out.old) (O.put out.new) (line_of number (column_count robot.now.bodies) (answer_to robot.now (row_of start.now header row.now))) }
     ensures only { IfErr result (λ stop. stop ≡ RowsStop.Output) }
     ensures rose { IsErrOf result RowsStop.Output → Rose (O.faults out.old) (O.faults out.new) }
     ensures kept { ¬ (IsErrOf result RowsStop.Output) → O.faults out.new ≡ O.faults out.old }
 {
-    let refused = desk.make_line(robot, header, number, row);
+    let refused = desk.make_line(robot, start, header, number, row);
     put(desk.line(), out)?;
     Ok(refused)
 }
@@ -72,16 +76,18 @@ fn put_row<O: Sink>(
 /// Puts the line of each row, up to the first that is too long. Tells whether a row is refused.
 fn put_rows<O: Sink>(
     robot: &Robot,
+    start: &State,
     header: Header,
     rows: &[u8],
     desk: &mut Desk,
     out: &mut O,
 ) -> Result<bool, RowsStop>
     requires desk { IsDeskOf robot.now desk.old }
+    requires start { Fits robot.now start.now }
     requires within { IsWithin robot.now header }
     requires short { length rows.now ≤ most_rows }
     ensures tells { IsTrue (O.tells out.new) → IsTrue (O.tells out.old) }
-    ensures follows { Follows (course_behind robot.now (rows_in header (lines_of rows.now))) (stream O.tells O.put O.faults out.old out.new) (told_as stop_of_rows result) }
+    ensures follows { Follows (course_behind (plan robot.now start.now) (rows_in header (lines_of rows.now))) (stream O.tells O.put O.faults out.old out.new) (told_as stop_of_rows result) }
     ensures rose { IsErrOf result RowsStop.Output → Rose (O.faults out.old) (O.faults out.new) }
     ensures kept { ¬ (IsErrOf result RowsStop.Output) → O.faults out.new ≡ O.faults out.old }
 {
@@ -92,7 +98,7 @@ fn put_rows<O: Sink>(
         if row.size > MOST_LINE {
             return Err(RowsStop::Fault(RowsFault::LineTooLong(number)));
         }
-        bad |= match put_row(robot, header, number, row.content, desk, out) {
+        bad |= match put_row(robot, start, header, number, row.content, desk, out) {
             Ok(refused) => refused,
             Err(stop) => return Err(stop),
         };
@@ -145,14 +151,16 @@ fn prepare(alloc: Global, robot: &Robot) -> Result<(Vec<u8>, Desk), AllocError>
 fn answer_behind<O: Sink>(
     alloc: Global,
     robot: &Robot,
+    start: &State,
     header: Header,
     rest: &[u8],
     out: &mut O,
 ) -> Result<bool, RowsStop>
     requires within { IsWithin robot.now header }
+    requires start { Fits robot.now start.now }
     requires short { length rest.now ≤ most_rows }
     ensures tells { IsTrue (O.tells out.new) → IsTrue (O.tells out.old) }
-    ensures follows { Follows (course_of_rows robot.now (Ok (rows_in header (lines_of rest.now)))) (stream O.tells O.put O.faults out.old out.new) (told_as stop_of_rows result) }
+    ensures follows { Follows (course_of_rows (plan robot.now start.now) (Ok (rows_in header (lines_of rest.now)))) (stream O.tells O.put O.faults out.old out.new) (told_as stop_of_rows result) }
     ensures long { ¬ (IsErrOf result (RowsStop.Fault RowsFault.TooLong)) }
     ensures rose { IsErrOf result RowsStop.Output → Rose (O.faults out.old) (O.faults out.new) }
     ensures kept { ¬ (IsErrOf result RowsStop.Output) → O.faults out.new ≡ O.faults out.old }
@@ -162,7 +170,7 @@ fn answer_behind<O: Sink>(
         Err(_) => return Err(RowsStop::Memory),
     };
     match put(first.as_slice(), out) {
-        Ok(()) => put_rows(robot, header, rest, &mut desk, out),
+        Ok(()) => put_rows(robot, start, header, rest, &mut desk, out),
         Err(stop) => Err(stop),
     }
 }
@@ -171,18 +179,20 @@ fn answer_behind<O: Sink>(
 pub(crate) fn answer_all<O: Sink>(
     alloc: Global,
     robot: &Robot,
+    start: &State,
     bytes: &[u8],
     out: &mut O,
 ) -> Result<bool, RowsStop>
+    requires start { Fits robot.now start.now }
     requires short { length bytes.now ≤ most_rows }
     ensures tells { IsTrue (O.tells out.new) → IsTrue (O.tells out.old) }
-    ensures follows { Follows (course_of_rows robot.now (rows_of_lines robot.now (lines_of bytes.now))) (stream O.tells O.put O.faults out.old out.new) (told_as stop_of_rows result) }
+    ensures follows { Follows (course_of_rows (plan robot.now start.now) (rows_of_lines robot.now (lines_of bytes.now))) (stream O.tells O.put O.faults out.old out.new) (told_as stop_of_rows result) }
     ensures long { ¬ (IsErrOf result (RowsStop.Fault RowsFault.TooLong)) }
     ensures rose { IsErrOf result RowsStop.Output → Rose (O.faults out.old) (O.faults out.new) }
     ensures kept { ¬ (IsErrOf result RowsStop.Output) → O.faults out.new ≡ O.faults out.old }
 {
     match behind_header(alloc, robot, bytes) {
-        Ok((header, rest)) => answer_behind(alloc, robot, header, rest, out),
+        Ok((header, rest)) => answer_behind(alloc, robot, start, header, rest, out),
         Err(stop) => Err(stop),
     }
 }

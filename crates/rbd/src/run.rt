@@ -1,4 +1,4 @@
-//! A run: the words, the robot's file, and the rows.
+//! A run: the words, the robot's files, and the rows.
 ghost use Rattle.std.specs.Prelude.{◌≡◌, ◌⊎◌, ◌++◌, Bool, IsTrue, map, string_bytes, Result};
 ghost use Rattle.rb_io.specs.Outside.{Rose};
 ghost use Rattle.rb_io.specs.Calls.{PutsPart};
@@ -6,10 +6,10 @@ ghost use Rattle.rbd.specs.Run.{source, stream, Goes, Ends, IsComplete};
 ghost use Rattle.rbd.specs.Headline.{Headline};
 
 use crate::ends::{no_memory, put_text, status};
-use crate::read::{read_robot, read_rows};
+use crate::read::{read_robot, read_rows, start_of};
 use crate::rows::answer_all;
 use crate::status::Status;
-use crate::stop::{Stop, of_reading, of_robot, of_rows};
+use crate::stop::{Stop, of_reading, of_robot, of_rows, of_start};
 use crate::words::read_words;
 use rb_io::{Inputs, Sink, put_all};
 use rb_rnea::laws::answer_law;
@@ -30,15 +30,19 @@ fn steps<I: Inputs, O: Sink>(
         Ok(command) => command,
         Err(fault) => return Err(Stop::Usage(fault)),
     };
-    let robot = match read_robot(alloc, inputs, command.file, command.root) {
+    let robot = match read_robot(alloc, inputs, command) {
         Ok(robot) => robot,
         Err(stop) => return Err(of_robot(stop)),
+    };
+    let start = match start_of(alloc, &robot, command.state) {
+        Ok(start) => start,
+        Err(stop) => return Err(of_start(stop)),
     };
     let rows = match read_rows(alloc, inputs) {
         Ok(rows) => rows,
         Err(stop) => return Err(of_reading(stop)),
     };
-    match answer_all(alloc, &robot, rows.as_slice(), out) {
+    match answer_all(alloc, &robot, &start, rows.as_slice(), out) {
         Ok(refused) => Ok(refused),
         Err(stop) => Err(of_rows(stop)),
     }

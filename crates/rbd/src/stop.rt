@@ -1,9 +1,10 @@
 //! What ends a run before its last row, by the part of the run that it comes from.
 ghost use Rattle.std.specs.Prelude.{◌≡◌};
-ghost use Rattle.rbd.specs.Stops.{refusal_of_tags, refusal_of_urdf, refusal_of_tree, stop_of_refusal, stop_of_read, stop_of_rows};
+ghost use Rattle.rbd.specs.Stops.{refusal_of_tags, refusal_of_urdf, refusal_of_srdf, refusal_of_tree, stop_of_refusal, stop_of_read, stop_of_rows, stop_of_start};
 
+use rb_srdf::{SrdfFault, SrdfFaultKind};
 use rb_tags::{TagFault, TagKind};
-use rb_tree::{TreeFault, TreeKind};
+use rb_tree::{TreeFault, TreeKind, WhichFile};
 use rb_urdf::{UrdfFault, UrdfFaultKind};
 use std::alloc::AllocError;
 
@@ -14,18 +15,22 @@ pub enum UsageFault {
     Words,
     /// The kind of the root is none.
     Root,
+    /// No group state has the name.
+    State,
 }
 
-/// What is wrong with the robot's file.
+/// What is wrong with the robot's files.
 #[derive(Clone, Copy, Debug, PartialEq, Eq)]
 pub enum RobotFault {
-    /// It passes 8 MiB.
-    TooLong,
-    /// It is no list of tags.
-    Tags(TagFault),
-    /// Its tags are no robot.
+    /// One passes 8 MiB.
+    TooLong(WhichFile),
+    /// One is no list of tags.
+    Tags(WhichFile, TagFault),
+    /// The tags of the robot's own file are no robot.
     Urdf(UrdfFault),
-    /// Its robot is no tree.
+    /// The tags of the other file are no groups, states and virtual joints.
+    Srdf(SrdfFault),
+    /// The robot is no tree.
     Tree(TreeFault),
     /// The name of a link or a joint has a character other than letters, digits and `_`: the place of the first.
     Name(u64),
@@ -71,6 +76,14 @@ pub enum ReadStop<F> {
     Memory,
 }
 
+/// Why there is no state from which rows start.
+#[derive(Clone, Copy, Debug, PartialEq, Eq)]
+pub enum StartStop {
+    /// No group state has the name.
+    NoState,
+    Memory,
+}
+
 /// Why rows are not answered to the last: for what they hold, for a fault of the output, or for want of memory.
 #[derive(Clone, Copy, Debug, PartialEq, Eq)]
 pub enum RowsStop {
@@ -79,14 +92,13 @@ pub enum RowsStop {
     Memory,
 }
 
-impl From<TagFault> for Refusal<RobotFault> {
-    ghost from_gives = { λ fault refusal. refusal ≡ refusal_of_tags fault };
-
-    fn from(fault: TagFault) -> Self {
-        match fault.kind {
-            TagKind::Memory => Refusal::Memory,
-            _ => Refusal::Fault(RobotFault::Tags(fault)),
-        }
+/// Why the bytes of a file are refused, of which the tags are.
+pub(crate) fn of_tags(file: WhichFile, fault: TagFault) -> Refusal<RobotFault>
+    ensures { result ≡ refusal_of_tags file fault }
+{
+    match fault.kind {
+        TagKind::Memory => Refusal::Memory,
+        _ => Refusal::Fault(RobotFault::Tags(file, fault)),
     }
 }
 
@@ -97,6 +109,17 @@ impl From<UrdfFault> for Refusal<RobotFault> {
         match fault.kind {
             UrdfFaultKind::Memory => Refusal::Memory,
             _ => Refusal::Fault(RobotFault::Urdf(fault)),
+        }
+    }
+}
+
+impl From<SrdfFault> for Refusal<RobotFault> {
+    ghost from_gives = { λ fault refusal. refusal ≡ refusal_of_srdf fault };
+
+    fn from(fault: SrdfFault) -> Self {
+        match fault.kind {
+            SrdfFaultKind::Memory => Refusal::Memory,
+            _ => Refusal::Fault(RobotFault::Srdf(fault)),
         }
     }
 }
@@ -143,6 +166,16 @@ impl From<RowsFault> for RowsStop {
     }
 }
 
+impl From<AllocError> for StartStop {
+    ghost use Rattle.rbd.specs.declared.stop.StartStop.TheVariants.{Memory};
+
+    ghost from_gives = { λ _ stop. stop ≡ Memory };
+
+    fn from(_error: AllocError) -> Self {
+        StartStop::Memory
+    }
+}
+
 impl From<AllocError> for RowsStop {
     ghost use Rattle.rbd.specs.declared.stop.RowsStop.TheVariants.{Memory};
 
@@ -161,6 +194,16 @@ pub(crate) fn of_robot(stop: ReadStop<RobotFault>) -> Stop
         ReadStop::Fault(fault) => Stop::Robot(fault),
         ReadStop::Input => Stop::Input,
         ReadStop::Memory => Stop::Memory,
+    }
+}
+
+/// A stop for want of a state to start from, as one of the run.
+pub(crate) fn of_start(stop: StartStop) -> Stop
+    ensures { result ≡ stop_of_start stop }
+{
+    match stop {
+        StartStop::NoState => Stop::Usage(UsageFault::State),
+        StartStop::Memory => Stop::Memory,
     }
 }
 

@@ -17,6 +17,14 @@ const WHEEL: &[u8] =
 const BOX: &[u8] =
     br#"<robot name="box"><link name="box"><inertial><mass value="1"/><inertia ixx="1" ixy="0" ixz="0" iyy="1" iyz="0" izz="1"/></inertial></link></robot>"#;
 
+// Two sliders of 1 kg, of which the second follows the first.
+const PAIR: &[u8] =
+    br#"<robot name="pair"><link name="base"/><link name="l1"><inertial><mass value="1"/></inertial></link><link name="l2"><inertial><mass value="1"/></inertial></link><joint name="one" type="prismatic"><parent link="base"/><child link="l1"/><axis xyz="1 0 0"/></joint><joint name="two" type="prismatic"><parent link="l1"/><child link="l2"/><axis xyz="1 0 0"/><mimic joint="one"/></joint></robot>"#;
+
+// The poses of the arm.
+const POSE: &[u8] =
+    br#"<robot name="arm"><group name="all"><joint name="hinge"/></group><group_state name="half" group="all"><joint name="hinge" value="0.5"/></group_state></robot>"#;
+
 const FIRST: &[u8] = b"row,answer,cause,tau.lift\n";
 
 // How a run ended, and what it put.
@@ -52,6 +60,25 @@ fn run_failing(
     inputs.add("robot.urdf", robot)?;
     inputs.add("-", rows)?;
     let mut out = MemSink::new(alloc, 10_000, 100, writes)?;
+    let mut err = MemSink::new(alloc, 100, 7, &[])?;
+    let status = run(alloc, words.as_slice(), &mut inputs, &mut out, &mut err);
+    Ok(Ran { status, out, err })
+}
+
+// Runs over these files with these words at the end.
+fn run_posed(
+    alloc: Global,
+    options: &[&str],
+    robot: &[u8],
+    poses: &[u8],
+    rows: &[u8],
+) -> Result<Ran, AllocError> {
+    let words = words_of(alloc, options)?;
+    let mut inputs = MemInputs::new(alloc, 4096, &[])?;
+    inputs.add("robot.urdf", robot)?;
+    inputs.add("robot.srdf", poses)?;
+    inputs.add("-", rows)?;
+    let mut out = MemSink::new(alloc, 10_000, 100, &[])?;
     let mut err = MemSink::new(alloc, 100, 7, &[])?;
     let status = run(alloc, words.as_slice(), &mut inputs, &mut out, &mut err);
     Ok(Ran { status, out, err })
@@ -222,6 +249,98 @@ fn a_zero_quaternion_is_refused(rt: HostRuntime) -> Result<(), Fail> {
         ran.out.bytes(),
         b"row,answer,cause,tau.root_joint.vx,tau.root_joint.vy,tau.root_joint.vz,tau.root_joint.wx,tau.root_joint.wy,tau.root_joint.wz\n1,notunit,q[1],,,,,,\n2,ok,,0.000000000000..0.000000000000,0.000000000000..0.000000000000,9.810000000000..9.810000000000,0.000000000000..0.000000000000,0.000000000000..0.000000000000,0.000000000000..0.000000000000\n".as_slice()
     );
+    Ok(())
+}
+
+#[test]
+fn a_slider_follows(rt: HostRuntime) -> Result<(), Fail> {
+    // the links move by 1 and 2 m/s² a unit of the first joint: 1 * 1 + 2 * 2
+    let ran = run_over(rt.alloc(), PAIR, b"a.one\n1\n")?;
+    assert_eq!(rt; ran.status, Status::Done);
+    assert_eq!(rt;
+        ran.out.bytes(),
+        b"row,answer,cause,tau.one\n1,ok,,5.000000000000..5.000000000000\n".as_slice()
+    );
+    Ok(())
+}
+
+#[test]
+fn rows_start_from_a_state(rt: HostRuntime) -> Result<(), Fail> {
+    let options = ["--srdf", "robot.srdf", "--state", "half"];
+    let ran = run_posed(rt.alloc(), &options, ARM, POSE, b"a.hinge\n0\n")?;
+    assert_eq!(rt; ran.status, Status::Done);
+    assert_eq!(rt;
+        ran.out.bytes(),
+        b"row,answer,cause,tau.hinge\n1,ok,,4.703164533705..4.703164533716\n".as_slice()
+    );
+    let neutral = run_posed(rt.alloc(), &options[..2], ARM, POSE, b"a.hinge\n0\n")?;
+    assert_eq!(rt;
+        neutral.out.bytes(),
+        b"row,answer,cause,tau.hinge\n1,ok,,0.000000000000..0.000000000000\n".as_slice()
+    );
+    Ok(())
+}
+
+// Words behind the robot's file, the other file, the status and the line on standard error. The robot is the arm.
+const POSES: [(&[&str], &[u8], Status, &[u8]); 8] = [
+    (
+        &["--srdf", "robot.srdf", "--state", "whole"],
+        POSE,
+        Status::Usage,
+        b"rbd: usage: state\n",
+    ),
+    (
+        &["--state", "half"],
+        b"",
+        Status::Usage,
+        b"rbd: usage: state\n",
+    ),
+    (
+        &["--state", "half", "--srdf", "robot.srdf"],
+        POSE,
+        Status::Usage,
+        b"rbd: usage: words\n",
+    ),
+    (
+        &["--srdf", "robot.srdf", "--root", "free"],
+        b"",
+        Status::Usage,
+        b"rbd: usage: root\n",
+    ),
+    (
+        &["--srdf", "robot.srdf"],
+        b"<robot name='arm'",
+        Status::Robot,
+        b"rbd: srdf: Unclosed at 0\n",
+    ),
+    (
+        &["--srdf", "robot.srdf"],
+        b"<robot name='arm'><group name=''/></robot>",
+        Status::Robot,
+        b"rbd: srdf: NoName at 18\n",
+    ),
+    (
+        &["--srdf", "robot.srdf"],
+        b"<robot name='leg'/>",
+        Status::Robot,
+        b"rbd: srdf: OtherRobot at 0\n",
+    ),
+    (
+        &["--srdf", "robot.srdf", "--state", "none"],
+        b"<robot name='arm'><group name='g'><joint name='knee'/></group></robot>",
+        Status::Robot,
+        b"rbd: srdf: UnknownName at 18\n",
+    ),
+];
+
+#[test]
+fn poses_are_refused(rt: HostRuntime) -> Result<(), Fail> {
+    for (options, poses, status, line) in POSES.iter() {
+        let ran = run_posed(rt.alloc(), options, ARM, poses, b"a.hinge\n0\n")?;
+        assert_eq!(rt; ran.status, *status);
+        assert_eq!(rt; ran.out.bytes(), b"".as_slice());
+        assert_eq!(rt; ran.err.bytes(), *line);
+    }
     Ok(())
 }
 

@@ -1,19 +1,25 @@
-use Rattle.std.proofs.Common.{◌≡◌, ◌≤◌, Err, ap, length}
 use Rattle.std.proofs.lemmas.Result.{err_from_is_err_and}
-use Rattle.rbd.specs.declared.stop.RobotFault.TheVariants as why
-use Rattle.rbd.specs.declared.stop.ReadStop.TheVariants as read
-use Rattle.rbd.specs.Plan.{most_file}
-use Rattle.rbd.specs.Stops.{stop_of_refusal}
-use Rattle.rbd.proofs.Refusals.{file_refused, never_long}
+use Rattle.rbd.specs.Plan.{files}
+use Rattle.std.specs.Option.{option_copied}
+use Rattle.rbd.proofs.Refusals.{source_is, robot_unfit}
 use Rattle.rbd.proofs.read.read_robot.Goals as goal
 
-pub returns-in-Err-clause-refused : goal.returns-in-Err-clause-refused
-returns-in-Err-clause-refused g c = λ tells. file_refused c.args.root _ _ _ c.file_stop.ensures (λ is. c.in-Err.ensures.longer tells (ap Err is))
+pub returns-in_err-robot_of-clause-refused : goal.returns-in_err-robot_of-clause-refused
+returns-in_err-robot_of-clause-refused g c =
+    let p = err_from_is_err_and c.from_residual-in_err-robot_of.result c.from_residual-in_err-robot_of.ensures.1 in
+    λ tells. rw (p.1, p.2)
+    (robot_unfit c.args.command.root (files (g.I.Inputs.holds c.args.inputs.now) c.args.command.file.now (option_copied c.args.command.srdf)) _ _
+    (source_is c.args.command.root _ _ c.args.command.file.now (option_copied c.args.command.srdf) c.in_ok-urdf.urdf c.in_ok-srdf.srdf _ c.read_urdf_of.ensures.holds c.as_ref.ensures.value
+    (c.in_ok-urdf.ensures.urdf tells) (c.in_ok-srdf.ensures.srdf (rw c.read_urdf_of.ensures.tells tells)))
+    c.in_err-robot_of.ensures.err)
 
-pub returns-in_err-robot_of_bytes-clause-long : goal.returns-in_err-robot_of_bytes-clause-long
-returns-in_err-robot_of_bytes-clause-long g c =
-    let p = err_from_is_err_and c.from_residual.result c.from_residual.ensures.1 in
-    let short : length c.as_slice.result.now ≤ most_file = rw c.as_slice.ensures c.in-Ok.ensures.within in
-    λ is.
-    let same : stop_of_refusal c.in_err-robot_of_bytes.field-0.0 ≡ read.Fault why.TooLong = cc in
-    absurd (never_long c.args.root c.as_slice.result.now _ short c.in_err-robot_of_bytes.ensures.err same)
+pub returns-clause-robot : goal.returns-clause-robot
+returns-clause-robot g c = λ tells. record {
+  source = _;
+  read =
+      source_is c.args.command.root _ _ c.args.command.file.now (option_copied c.args.command.srdf) c.in_ok-urdf.urdf c.in_ok-srdf.srdf _ c.read_urdf_of.ensures.holds c.as_ref.ensures.value
+      (c.in_ok-urdf.ensures.urdf tells) (c.in_ok-srdf.ensures.srdf (rw c.read_urdf_of.ensures.tells tells));
+  built = c.in_ok-robot_of.ensures.ok;
+  kept = c.in_ok-robot_of.ensures.kept;
+  plain = c.in_ok-robot_of.ensures.plain;
+}
