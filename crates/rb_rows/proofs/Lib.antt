@@ -1,0 +1,11 @@
+pub mod Records
+pub mod Targets
+pub mod Differ
+pub mod HeaderSteps
+pub mod RowSteps
+pub mod Putting
+pub mod HeadNames
+pub mod TextLines
+pub mod HeaderLaws
+pub mod RowLaws
+pub mod LineLaws

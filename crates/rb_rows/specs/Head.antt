@@ -1,0 +1,53 @@
+-- The lines of names: the columns of a state, and the first line of the output.
+use Rattle.std.specs.Prelude.{ℕ, ◌+◌, ◌-◌, List, [], ◌∷◌, ◌++◌, map, flat_map, codes, decimal, Bool, if◌then◌else◌}
+use Rattle.std.specs.List.{range_with_len}
+use Rattle.csv.specs.Writing.{default_writer, row_text}
+use Rattle.rb_tree.specs.Columns.{column_count}
+use Rattle.rb_tree.specs.Robot.{Tree}
+use Rattle.rb_rows.specs.declared.task.Task.{Task}
+use Rattle.rb_rows.specs.declared.task.Task.TheVariants as For
+use Rattle.rb_rows.specs.Columns.{behind, columns_behind, state_columns}
+
+abbrev pub task_word : Task → List ℕ
+task_word For.Rnea = codes "rnea"
+task_word For.Crba = codes "crba"
+task_word For.Fd = codes "fd"
+task_word For.Aba = codes "aba"
+task_word For.Contact = codes "contact"
+task_word For.Impulse = codes "impulse"
+
+-- ---- lines
+-- names as a record of comma-separated values, or nothing where there are none; ended by LF
+abbrev pub line_of : List (List ℕ) → List ℕ
+line_of [] = codes "\n"
+line_of (name ∷ names) = row_text default_writer (name ∷ names)
+
+-- ---- the names of values
+-- the entry of the inertia matrix at two columns, which are numbered from 1
+abbrev pub mass_name : ℕ → ℕ → List ℕ
+mass_name c d = codes "M." ++ decimal c ++ codes "." ++ decimal d
+
+-- those of column c and each from it on
+abbrev pub mass_row : ℕ → ℕ → List (List ℕ)
+mass_row count c = map (mass_name c) (range_with_len c (count + 1 - c))
+
+-- those of each two of so many columns, the lower one first
+abbrev pub mass_names : ℕ → List (List ℕ)
+mass_names count = flat_map (mass_row count) (range_with_len 1 count)
+
+-- the values of a task, of which each but an entry of the inertia matrix is named as a column of speeds is, behind its prefix
+abbrev pub value_names : Tree → Task → List (List ℕ)
+value_names tree For.Rnea = columns_behind (codes "tau.") tree
+value_names tree For.Crba = mass_names (column_count tree.bodies)
+value_names tree For.Fd = columns_behind (codes "a.") tree
+value_names tree For.Aba = columns_behind (codes "a.") tree
+value_names tree For.Contact = columns_behind (codes "a.") tree
+value_names tree For.Impulse = columns_behind (codes "v.") tree
+
+-- the columns of the state, where they are given again
+abbrev pub echoed_names : Tree → Bool → List (List ℕ)
+echoed_names tree echo = if echo then behind (codes "in.") (state_columns tree) else []
+
+-- of the output: the number of the row, its answer, the cause of a refusal, the state where it is given again, the values
+unfoldable pub head_fields : Tree → Task → Bool → List (List ℕ)
+head_fields tree task echo = codes "row" ∷ codes "answer" ∷ codes "cause" ∷ (echoed_names tree echo ++ value_names tree task)

@@ -1,0 +1,9 @@
+-- Read `Row` first: the state that a line tells, over `Record`, the fields of a line. `Header` says what the fields of a header stand for, over
+-- `Columns`, the columns of a robot's states. `Faults` has the faults of fields, and how they are told. `Head` has the lines of names. `Laws` says what headers and rows mean.
+pub mod Record
+pub mod Faults
+pub mod Columns
+pub mod Header
+pub mod Row
+pub mod Head
+pub mod Laws

@@ -1,0 +1,205 @@
+//! The lines of names: the columns of a state, and the first line of the output.
+ghost use Rattle.std.specs.Prelude.{◌≡◌, ◌≤◌, ◌++◌, ◌∷◌, [], map, IfOk, OnOk, codes, string_bytes};
+ghost use Rattle.std.specs.Str.{IsUtf8};
+ghost use Rattle.csv.specs.Writing.{default_writer, row_text};
+ghost use Rattle.rb_tree.specs.Columns.{column_count};
+ghost use Rattle.rb_tree.specs.declared.sizes.TheConstants.{MAX_COLUMNS};
+ghost use Rattle.rb_rows.specs.Columns.{behind, state_columns};
+ghost use Rattle.rb_rows.specs.Head.{line_of, mass_name, mass_row, mass_names, value_names, echoed_names, head_fields};
+
+use crate::columns::{column_texts, put_columns};
+use crate::task::Task;
+use csv::WriterBuilder;
+use itoa::Buffer;
+use rb_tags::Text;
+use rb_tree::Robot;
+use std::alloc::{AllocError, Global};
+use std::str::from_utf8;
+
+/// The texts, as slices.
+fn slices_of<'a>(alloc: Global, texts: &'a [String]) -> Result<Vec<&'a [u8]>, AllocError>
+    ensures { IfOk result (λ slices. map (λ s. s.now) slices.items ≡ map string_bytes texts.now) }
+{
+    let mut slices = Vec::new(alloc);
+    for text in texts {
+        slices.push(text.as_bytes())?;
+    }
+    Ok(slices)
+}
+
+/// Fields as a record.
+///
+/// A writer to memory fails for want of memory alone, but its contract does not say so.
+fn record_of(alloc: Global, fields: &[&[u8]]) -> Result<Vec<u8>, AllocError>
+    ensures { IfOk result (λ line. line.items ≡ row_text default_writer (map (λ f. f.now) fields.now)) }
+{
+    let mut writer = WriterBuilder::new().from_writer(Vec::new(alloc));
+    if writer.write_fields(fields).is_err() {
+        return Err(AllocError);
+    }
+    match writer.into_inner() {
+        Ok(line) => Ok(line),
+        Err(_) => Err(AllocError),
+    }
+}
+
+/// Texts as a record.
+fn record_line(alloc: Global, texts: &[String]) -> Result<Vec<u8>, AllocError>
+    ensures { IfOk result (λ line. line.items ≡ row_text default_writer (map string_bytes texts.now)) }
+{
+    let fields = slices_of(alloc, texts)?;
+    record_of(alloc, fields.as_slice())
+}
+
+/// Bytes in UTF-8 as a text.
+fn text_of(alloc: Global, bytes: Vec<u8>) -> Result<Text, AllocError>
+    requires { IsUtf8 bytes.items }
+    ensures { IfOk result (λ text. text ≡ bytes.items) }
+{
+    Text::copy(alloc, from_utf8(bytes.as_slice()).unwrap())
+}
+
+/// Names as a line.
+fn line_of(alloc: Global, names: &[String]) -> Result<Text, AllocError>
+    ensures { IfOk result (λ line. line ≡ line_of (map string_bytes names.now)) }
+{
+    if names.is_empty() {
+        return Text::copy(alloc, "\n");
+    }
+    let line = record_line(alloc, names)?;
+    text_of(alloc, line)
+}
+
+/// The line of all columns of a state, ended by LF: where there are none, the LF alone. Its one refusal is for want of memory.
+pub fn column_line(alloc: Global, robot: &Robot) -> Result<Text, AllocError>
+    ensures { IfOk result (λ line. line ≡ line_of (state_columns robot.now)) }
+{
+    let names = column_texts(alloc, robot)?;
+    line_of(alloc, names.as_slice())
+}
+
+/// The name of the entry of the inertia matrix at two columns.
+fn mass_name(alloc: Global, c: u32, d: u32) -> Result<String, AllocError>
+    ensures { IfOk result (λ name. string_bytes name ≡ mass_name c d) }
+{
+    let mut buffer = Buffer::new();
+    let mut name = String::from_str(alloc, "M.")?;
+    name.push_str(buffer.format(c))?;
+    name.push_str(".")?;
+    name.push_str(buffer.format(d))?;
+    Ok(name)
+}
+
+/// Puts the names of the entries at column c and each from it on.
+fn put_mass_row(
+    alloc: Global,
+    texts: &mut Vec<String>,
+    c: u32,
+    count: u32,
+) -> Result<(), AllocError>
+    requires within { c ≤ count }
+    requires few { count ≤ MAX_COLUMNS }
+    ensures { OnOk result (map string_bytes texts.new.items ≡ map string_bytes texts.old.items ++ mass_row count c) }
+{
+    for d in c..count + 1 {
+        let name = mass_name(alloc, c, d)?;
+        texts.push(name)?;
+    }
+    Ok(())
+}
+
+/// Puts the names of the entries at each two columns, the lower one first.
+fn put_mass_names(alloc: Global, texts: &mut Vec<String>, count: u32) -> Result<(), AllocError>
+    requires { count ≤ MAX_COLUMNS }
+    ensures { OnOk result (map string_bytes texts.new.items ≡ map string_bytes texts.old.items ++ mass_names count) }
+{
+    for c in 1..count + 1 {
+        put_mass_row(alloc, texts, c, count)?;
+    }
+    Ok(())
+}
+
+/// Puts the names of a task's values.
+fn put_value_names(
+    alloc: Global,
+    texts: &mut Vec<String>,
+    robot: &Robot,
+    task: Task,
+) -> Result<(), AllocError>
+    ensures { OnOk result (map string_bytes texts.new.items ≡ map string_bytes texts.old.items ++ value_names robot.now task) }
+{
+    match task {
+        Task::Rnea => put_columns(alloc, texts, "tau.", robot),
+        Task::Crba => put_mass_names(alloc, texts, robot.nv()),
+        Task::Fd | Task::Aba | Task::Contact => put_columns(alloc, texts, "a.", robot),
+        Task::Impulse => put_columns(alloc, texts, "v.", robot),
+    }
+}
+
+/// Puts names, each behind a prefix.
+fn put_behind(
+    alloc: Global,
+    texts: &mut Vec<String>,
+    prefix: &str,
+    names: &[String],
+) -> Result<(), AllocError>
+    ensures { OnOk result (map string_bytes texts.new.items ≡ map string_bytes texts.old.items ++ behind prefix.now (map string_bytes names.now)) }
+{
+    for name in names {
+        let mut text = String::from_str(alloc, prefix)?;
+        text.push_str(name.as_str())?;
+        texts.push(text)?;
+    }
+    Ok(())
+}
+
+/// Puts the columns of the state, where they are given again.
+fn put_echoed_names(
+    alloc: Global,
+    texts: &mut Vec<String>,
+    robot: &Robot,
+    echo: bool,
+) -> Result<(), AllocError>
+    ensures { OnOk result (map string_bytes texts.new.items ≡ map string_bytes texts.old.items ++ echoed_names robot.now echo) }
+{
+    if !echo {
+        return Ok(());
+    }
+    let names = column_texts(alloc, robot)?;
+    put_behind(alloc, texts, "in.", names.as_slice())
+}
+
+/// The first names of the output.
+fn leading_names(alloc: Global) -> Result<Vec<String>, AllocError>
+    ensures { IfOk result (λ texts. map string_bytes texts.items ≡ codes "row" ∷ codes "answer" ∷ codes "cause" ∷ []) }
+{
+    let mut texts = Vec::new(alloc);
+    texts.push(String::from_str(alloc, "row")?)?;
+    texts.push(String::from_str(alloc, "answer")?)?;
+    texts.push(String::from_str(alloc, "cause")?)?;
+    Ok(texts)
+}
+
+/// The names of the output.
+#[tactic(auto, unfolding(crate::specs::Head::head_fields))]
+fn head_names(
+    alloc: Global,
+    robot: &Robot,
+    task: Task,
+    echo: bool,
+) -> Result<Vec<String>, AllocError>
+    ensures { IfOk result (λ texts. map string_bytes texts.items ≡ head_fields robot.now task echo) }
+{
+    let mut texts = leading_names(alloc)?;
+    put_echoed_names(alloc, &mut texts, robot, echo)?;
+    put_value_names(alloc, &mut texts, robot, task)?;
+    Ok(texts)
+}
+
+/// The first line of the output, ended by LF. Its one refusal is for want of memory.
+pub fn head_line(alloc: Global, robot: &Robot, task: Task, echo: bool) -> Result<Text, AllocError>
+    ensures { IfOk result (λ line. line ≡ line_of (head_fields robot.now task echo)) }
+{
+    let names = head_names(alloc, robot, task, echo)?;
+    line_of(alloc, names.as_slice())
+}

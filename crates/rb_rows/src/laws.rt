@@ -1,0 +1,19 @@
+// What headers, rows and lines of names say.
+ghost use Rattle.rb_rows.specs.Laws.{HeaderNamesColumns, HeaderFaultIsFirst, RowTellsNumbers, ColumnLineReadsBack, HeadLineReadsBack};
+
+/// Each field of a header is a remark or names the column whose number it stands for, and none is named twice. A fault is the first.
+pub fn header_law()
+    ensures columns { HeaderNamesColumns }
+    ensures first { HeaderFaultIsFirst }
+{}
+
+/// Each number that a header names has the bracket of its field, or is what it was where that is empty. Every other number, and gravity, is what it was.
+pub fn row_law()
+    ensures { RowTellsNumbers }
+{}
+
+/// The lines of names read back as their names: that of a robot's columns, where it has any, and the first line of the output.
+pub fn line_law()
+    ensures columns { ColumnLineReadsBack }
+    ensures head { HeadLineReadsBack }
+{}
