@@ -1,0 +1,18 @@
+//! The answer of one row as a value of its own, and the line that tells it.
+#![tactic(auto)]
+
+mod answer;
+mod job;
+mod line;
+mod slot;
+mod values;
+
+pub use answer::answer_row;
+pub use job::Job;
+pub use line::{line_room, put_line};
+pub use rb_rows::Task;
+pub use slot::{Answer, Slot, SlotInput};
+pub use values::Values;
+
+#[cfg(test)]
+mod tests;

@@ -1,0 +1,220 @@
+//! Lines of the rows of a lift, worked out by hand.
+ghost use Rattle.std.specs.Prelude.{◌≡◌, IfOk, IfSome};
+ghost use Rattle.rb_tree.specs.Places.{IsFor};
+ghost use Rattle.rb_tree.specs.State.{Fits};
+ghost use Rattle.rb_run.specs.Slots.{IsSlotOf};
+ghost use Rattle.rb_run.specs.declared.slot.Answer.TheVariants.{Idle};
+ghost use Rattle.rb_rows.specs.declared.task.Task.TheVariants.{Rnea};
+
+use super::*;
+use rb_num::Iv;
+use rb_rows::{FieldFault, FieldKind};
+use rb_tags::read_tags;
+use rb_text::Out;
+use rb_tree::{Robot, State};
+use rb_urdf::read_urdf;
+use rb_work::{Name, NameKind, RowFault, Work};
+use std::alloc::{AllocError, Global};
+use std::test::*;
+
+const ONE: i128 = 1_000_000_000_000;
+
+const LIFT: &str =
+    "<robot name='lift'><link name='base'/><link name='car'><inertial><mass value='2'/></inertial></link><joint name='lift' type='prismatic'><parent link='base'/><child link='car'/><axis xyz='0 0 1'/></joint></robot>";
+
+const HEAVY: &str =
+    "<robot name='lift'><link name='base'/><link name='car'><inertial><mass value='1e12'/></inertial></link><joint name='lift' type='prismatic'><parent link='base'/><child link='car'/><axis xyz='0 0 1'/></joint></robot>";
+
+// Inverse dynamics of the robot of a file; nothing if the file holds none.
+fn job_of(alloc: Global, text: &str, echo: bool) -> Option<Job>
+    ensures { IfSome result (λ job. job.task ≡ Rnea) }
+{
+    let tags = read_tags(alloc, text.as_bytes()).ok()?;
+    let urdf = read_urdf(alloc, &tags).ok()?;
+    let robot = Robot::build(alloc, &urdf, None, None).ok()?;
+    Some(Job {
+        robot,
+        task: Task::Rnea,
+        echo,
+    })
+}
+
+fn work_for(alloc: Global, robot: &Robot) -> Result<Work, AllocError>
+    ensures { IfOk result (IsFor robot.now) }
+{
+    Work::new(alloc, robot.bodies(), robot.full(), robot.ups(), 0)
+}
+
+// The line of a slot.
+fn line_of(alloc: Global, job: &Job, slot: &Slot) -> Result<Out, AllocError>
+    requires slot { IsSlotOf job.now slot.now }
+    requires answered { ¬ slot.now.answer ≡ Idle }
+{
+    let mut out = Out::with_room(alloc, line_room(job))?;
+    put_line(job, slot, &mut out);
+    Ok(out)
+}
+
+fn accelerate(robot: &Robot, state: &mut State, up: Iv)
+    requires { Fits robot.now state.old }
+    ensures { Fits robot.now state.new }
+{
+    if robot.nv() != 0 {
+        state.set_a(0, up);
+    }
+}
+
+// A slot of the row of this number in which the first column has this acceleration.
+fn slot_of(alloc: Global, job: &Job, row: u64, up: Iv) -> Result<Slot, AllocError>
+    ensures { IfOk result (IsSlotOf job.now) }
+{
+    let mut slot = Slot::new(alloc, job)?;
+    slot.row = row;
+    accelerate(&job.robot, &mut slot.state, up);
+    Ok(slot)
+}
+
+fn answer_of(found: Result<(), RowFault>) -> Answer
+    ensures { ¬ result ≡ Idle }
+{
+    match found {
+        Ok(()) => Answer::Done,
+        Err(fault) => Answer::Refused(fault),
+    }
+}
+
+// Answers the row of a slot.
+fn answer_slot(job: &Job, work: &mut Work, slot: &mut Slot)
+    requires task { job.now.task ≡ Rnea }
+    requires slot { IsSlotOf job.now slot.old }
+    requires work { IsFor job.now.robot work.old }
+    ensures slot { IsSlotOf job.now slot.new }
+    ensures answered { ¬ slot.new.answer ≡ Idle }
+{
+    let found = answer_row(job, &slot.state, work, &mut slot.values);
+    slot.answer = answer_of(found);
+}
+
+// The line of the row of this number in which the first column has this acceleration.
+fn lifted(alloc: Global, job: &Job, row: u64, up: Iv) -> Result<Out, AllocError>
+    requires { job.now.task ≡ Rnea }
+{
+    let mut slot = slot_of(alloc, job, row, up)?;
+    let mut work = work_for(alloc, &job.robot)?;
+    answer_slot(job, &mut work, &mut slot);
+    line_of(alloc, job, &slot)
+}
+
+// The line of the row of this number, with the neutral state and this answer.
+fn answered(alloc: Global, job: &Job, row: u64, answer: Answer) -> Result<Out, AllocError>
+    requires { ¬ answer ≡ Idle }
+{
+    let mut slot = Slot::new(alloc, job)?;
+    slot.row = row;
+    slot.answer = answer;
+    line_of(alloc, job, &slot)
+}
+
+// 2 (9.81 + 1.5)
+#[test]
+fn a_lift_is_answered(rt: HostRuntime) -> Result<(), Fail> {
+    let alloc = rt.alloc();
+    let job = job_of(alloc, LIFT, false).ok_or("the robot is built")?;
+    let line = lifted(
+        alloc,
+        &job,
+        1,
+        Iv::new(1_500_000_000_000, 1_500_000_000_000),
+    )?;
+    assert_eq!(rt;
+        line.bytes(),
+        b"1,ok,,22.620000000000..22.620000000000\n".as_slice()
+    );
+    Ok(())
+}
+
+#[test]
+fn numbers_are_told_with_the_answer(rt: HostRuntime) -> Result<(), Fail> {
+    let alloc = rt.alloc();
+    let job = job_of(alloc, LIFT, true).ok_or("the robot is built")?;
+    let line = lifted(
+        alloc,
+        &job,
+        2,
+        Iv::new(1_500_000_000_000, 1_500_000_000_000),
+    )?;
+    assert_eq!(rt;
+        line.bytes(),
+        b"2,ok,,0.000000000000..0.000000000000,0.000000000000..0.000000000000,1.500000000000..1.500000000000,0.000000000000..0.000000000000,22.620000000000..22.620000000000\n".as_slice()
+    );
+    Ok(())
+}
+
+// The force is too large.
+#[test]
+fn sizes_are_refused(rt: HostRuntime) -> Result<(), Fail> {
+    let alloc = rt.alloc();
+    let job = job_of(alloc, HEAVY, false).ok_or("the robot is built")?;
+    let line = lifted(alloc, &job, 1, Iv::new(ONE * ONE, ONE * ONE))?;
+    assert_eq!(rt; line.bytes(), b"1,size,b[2],\n".as_slice());
+    let told = job_of(alloc, HEAVY, true).ok_or("the robot is built")?;
+    let line = lifted(alloc, &told, 1, Iv::new(ONE * ONE, ONE * ONE))?;
+    assert_eq!(rt;
+        line.bytes(),
+        b"1,size,b[2],0.000000000000..0.000000000000,0.000000000000..0.000000000000,1000000000000.000000000000..1000000000000.000000000000,0.000000000000..0.000000000000,\n".as_slice()
+    );
+    Ok(())
+}
+
+#[test]
+fn bad_fields_tell_no_numbers(rt: HostRuntime) -> Result<(), Fail> {
+    let alloc = rt.alloc();
+    let job = job_of(alloc, LIFT, true).ok_or("the robot is built")?;
+    let fault = FieldFault {
+        kind: FieldKind::NotNumber,
+        field: 3,
+    };
+    let line = answered(alloc, &job, 7, Answer::Bad(fault))?;
+    assert_eq!(rt; line.bytes(), b"7,field,NotNumber[3],,,,,\n".as_slice());
+    Ok(())
+}
+
+#[test]
+fn causes_are_told(rt: HostRuntime) -> Result<(), Fail> {
+    let alloc = rt.alloc();
+    let job = job_of(alloc, LIFT, false).ok_or("the robot is built")?;
+    let name = Name::one(NameKind::q, 2);
+    let range = Answer::Refused(RowFault::Range { name });
+    assert_eq!(rt;
+        answered(alloc, &job, 1, range)?.bytes(),
+        b"1,range,q[2],\n".as_slice()
+    );
+    let name = Name::two(NameKind::L, 13, 4);
+    let not_unit = Answer::Refused(RowFault::NotUnit { name });
+    assert_eq!(rt;
+        answered(alloc, &job, 1, not_unit)?.bytes(),
+        b"1,notunit,L[13.4],\n".as_slice()
+    );
+    let name = Name::one(NameKind::D, 1);
+    let pivot = Answer::Refused(RowFault::Pivot {
+        name,
+        iv: Iv::new(-1, ONE),
+    });
+    assert_eq!(rt;
+        answered(alloc, &job, 1, pivot)?.bytes(),
+        b"1,pivot,D[1]=-0.000000000001..1.000000000000,\n".as_slice()
+    );
+    Ok(())
+}
+
+fn is_shared<T: Send + Sync>() {}
+
+#[test]
+fn types_are_shared(_rt: HostRuntime) {
+    is_shared::<Job>();
+    is_shared::<Slot>();
+    is_shared::<Values>();
+    is_shared::<Task>();
+    is_shared::<SlotInput>();
+    is_shared::<Answer>();
+}
