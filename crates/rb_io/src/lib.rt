@@ -1,4 +1,4 @@
-//! Sources and sinks of bytes: what is read, what is written, and a count of the calls that failed.
+//! Sources and sinks of bytes: what is read, what is written, and a count of the calls that failed; and the lines of what is read.
 //!
 //! The forms in memory tell their bytes. The adapters over the machine's files and streams tell
 //! none: what a file or a stream holds is trusted. Their contracts say that they pass on the very
@@ -8,6 +8,7 @@
 mod calls;
 mod host;
 mod inputs;
+mod lines;
 mod mem_bytes;
 mod mem_file;
 mod mem_files;
@@ -19,6 +20,7 @@ mod tally;
 pub use calls::{Bytes, FileFault, put_all, read_all};
 pub use host::{FileInputs, StdSink};
 pub use inputs::{MemInputs, NoFaultsInputs};
+pub use lines::{Cut, MOST_LINE, next_line};
 pub use memory::{MemSink, NoFaultsSink};
 pub use outside::{Failed, Inputs, Sink};
 

@@ -43,8 +43,8 @@ fn record_of(alloc: Global, fields: &[&[u8]]) -> Result<Vec<u8>, AllocError>
     }
 }
 
-/// Texts as a record.
-fn record_line(alloc: Global, texts: &[String]) -> Result<Vec<u8>, AllocError>
+/// Texts as a record of comma-separated values, ended by LF. Its one refusal is for want of memory.
+pub fn record_line(alloc: Global, texts: &[String]) -> Result<Vec<u8>, AllocError>
     ensures { IfOk result (λ line. line.items ≡ row_text default_writer (map string_bytes texts.now)) }
 {
     let fields = slices_of(alloc, texts)?;

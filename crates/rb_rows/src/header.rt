@@ -1,6 +1,7 @@
 ghost use Rattle.std.specs.Prelude.{◌≡◌, ◌≤◌, ◌<◌, ◌+◌, ◌⊎◌, ℕ, List, [], not, length, slice_get, IfOk, IfErr, IfSome, Ok, Err, Some, None, true, if◌then◌else◌};
 ghost use Rattle.std.specs.Str.{is_utf8};
 ghost use Rattle.csv.specs.Records.{fields_of};
+ghost use Rattle.rb_io.specs.declared.lines.TheConstants.{MOST_LINE};
 ghost use Rattle.rb_tree.specs.State.{Fits, Row};
 ghost use Rattle.rb_tree.specs.Robot.{AreBodies};
 ghost use Rattle.rb_rows.specs.Columns.{state_columns, state_targets};
@@ -124,7 +125,7 @@ fn targets_of(
 ) -> Result<Vec<Target>, HeaderFault>
     requires kept { AreBodies robot.now.bodies }
     requires columns { names.now ≡ state_columns robot.now }
-    requires few { length (fields_of fields.now) ≤ 65537 }
+    requires few { length (fields_of fields.now) ≤ MOST_LINE + 1 }
     ensures ok { IfOk result (λ targets. targets_after robot.now [] (fields_of fields.now) ≡ Ok targets.items) }
     ensures err { IfErr result (λ fault. (fault ≡ no_memory) ⊎ (targets_after robot.now [] (fields_of fields.now) ≡ Err fault)) }
 {
@@ -145,7 +146,7 @@ fn read_record(
     one: bool,
     fields: &ByteRecord,
 ) -> Result<Header, HeaderFault>
-    requires few { one ≡ true → length (fields_of fields.now) ≤ 65537 }
+    requires few { one ≡ true → length (fields_of fields.now) ≤ MOST_LINE + 1 }
     ensures ok { IfOk result (λ header. targets_of robot.now (if one then Some (fields_of fields.now) else None) ≡ Ok header) }
     ensures places { IfOk result (λ header. (row : Row) → Fits robot.now row → HasPlaces header row) }
     ensures err { IfErr result (λ fault. (fault ≡ no_memory) ⊎ (targets_of robot.now (if one then Some (fields_of fields.now) else None) ≡ Err fault)) }
@@ -173,7 +174,7 @@ impl Header {
     /// Reads the first line of a table: one record, in UTF-8, of the names of columns of the robot's states, each once, in any order. A field that begins
     /// with `#` is a remark.
     pub fn read(alloc: Global, robot: &Robot, line: &[u8]) -> Result<Header, HeaderFault>
-        requires { length line.now ≤ 65536 }
+        requires { length line.now ≤ MOST_LINE }
         ensures ok { IfOk result (λ header. header_of robot.now line.now ≡ Ok header) }
         ensures places { IfOk result (λ header. (row : Row) → Fits robot.now row → HasPlaces header row) }
         ensures err { IfErr result (λ fault. (fault ≡ no_memory) ⊎ (header_of robot.now line.now ≡ Err fault)) }

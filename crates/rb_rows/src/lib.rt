@@ -12,7 +12,7 @@ mod row;
 mod task;
 
 pub use faults::{FieldFault, FieldKind, HeaderFault, HeaderKind, LineFault};
-pub use head::{column_line, head_line};
+pub use head::{column_line, head_line, record_line};
 pub use header::{Header, Target};
 pub use laws::{header_law, line_law, row_law};
 pub use row::read_row;

@@ -1,6 +1,7 @@
 // Lines of comma-separated values.
-ghost use Rattle.std.specs.Prelude.{◌≡◌, ◌≤◌, length, IfOk, Some, is_some, true};
+ghost use Rattle.std.specs.Prelude.{◌≡◌, ◌≤◌, ◌+◌, length, IfOk, Some, is_some, true};
 ghost use Rattle.csv.specs.Records.{fields_of};
+ghost use Rattle.rb_io.specs.declared.lines.TheConstants.{MOST_LINE};
 ghost use Rattle.rb_rows.specs.Record.{fields_in};
 
 use csv::{ByteRecord, ReaderBuilder};
@@ -14,10 +15,10 @@ pub(crate) fn read_line(
     line: &[u8],
     fields: &mut ByteRecord,
 ) -> Result<bool, AllocError>
-    requires { length line.now ≤ 65536 }
+    requires { length line.now ≤ MOST_LINE }
     ensures one { IfOk result (λ one. one ≡ is_some (fields_in line.now)) }
     ensures fields { IfOk result (λ one. one ≡ true → fields_in line.now ≡ Some (fields_of fields.new)) }
-    ensures few { IfOk result (λ one. one ≡ true → length (fields_of fields.new) ≤ 65537) }
+    ensures few { IfOk result (λ one. one ≡ true → length (fields_of fields.new) ≤ MOST_LINE + 1) }
 {
     let mut reader = ReaderBuilder::new()
         .has_headers(false)

@@ -1,5 +1,6 @@
 ghost use Rattle.std.specs.Prelude.{◌≡◌, ◌≤◌, ◌+◌, length, OnOk, IfErr, Ok, Err, Some, None, true, if◌then◌else◌};
 ghost use Rattle.csv.specs.Records.{fields_of};
+ghost use Rattle.rb_io.specs.declared.lines.TheConstants.{MOST_LINE};
 ghost use Rattle.rb_tree.specs.Robot.{Tree};
 ghost use Rattle.rb_tree.specs.State.{Fits};
 ghost use Rattle.rb_rows.specs.declared.faults.FieldFault.{FieldFault};
@@ -61,7 +62,7 @@ fn read_field(
 /// Reads the fields of a record into a state.
 fn read_fields(header: &Header, fields: &ByteRecord, into: &mut State) -> Result<(), FieldFault>
     requires places { HasPlaces header.now into.old }
-    requires few { length (fields_of fields.now) ≤ 65537 }
+    requires few { length (fields_of fields.now) ≤ MOST_LINE + 1 }
     requires count { length (fields_of fields.now) ≡ length header.now }
     ensures ok { OnOk result (filled 1 header.now (fields_of fields.now) into.old ≡ Ok into.new) }
     ensures err { IfErr result (λ fault. filled 1 header.now (fields_of fields.now) into.old ≡ Err fault) }
@@ -83,7 +84,7 @@ fn read_record(
     into: &mut State,
 ) -> Result<(), FieldFault>
     requires places { HasPlaces header.now into.old }
-    requires few { one ≡ true → length (fields_of fields.now) ≤ 65537 }
+    requires few { one ≡ true → length (fields_of fields.now) ≤ MOST_LINE + 1 }
     ensures ok { OnOk result (row_told header.now (if one then Some (fields_of fields.now) else None) into.old ≡ Ok into.new) }
     ensures err { IfErr result (λ fault. row_told header.now (if one then Some (fields_of fields.now) else None) into.old ≡ Err fault) }
     ensures alike { IsAlike into.old into.new }
@@ -108,7 +109,7 @@ pub fn read_row(
     into: &mut State,
 ) -> Result<(), LineFault>
     requires places { HasPlaces header.now into.old }
-    requires short { length line.now ≤ 65536 }
+    requires short { length line.now ≤ MOST_LINE }
     ensures ok { OnOk result (row_of header.now line.now into.old ≡ Ok into.new) }
     ensures err { (fault : FieldFault) → result ≡ Err (LineFault.Field fault) → row_of header.now line.now into.old ≡ Err fault }
     ensures memory { result ≡ Err LineFault.Memory → into.new ≡ into.old }

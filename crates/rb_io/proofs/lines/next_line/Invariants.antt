@@ -1,6 +1,6 @@
 use Rattle.std.proofs.Common.{◌≡◌, ◌≤◌, length}
-use Rattle.rbd.specs.Cut.{lines_of}
-use Rattle.rbd.proofs.lines.next_line.Given as goal
+use Rattle.rb_io.specs.Cut.{lines_of}
+use Rattle.rb_io.proofs.lines.next_line.Given as goal
 
 -- no line that is not empty is passed
 abbrev pub invariant-lines : goal.invariant-lines

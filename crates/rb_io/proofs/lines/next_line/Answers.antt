@@ -1,6 +1,6 @@
 use Rattle.std.proofs.Common.{◌≡◌, length, arith, ◌∙◌, sym}
-use Rattle.rbd.proofs.Cutting.{lines_of-none}
-use Rattle.rbd.proofs.lines.next_line.Goals as goal
+use Rattle.rb_io.proofs.Cutting.{lines_of-none}
+use Rattle.rb_io.proofs.lines.next_line.Goals as goal
 
 pub returns-clause-lines : goal.returns-clause-lines
 returns-clause-lines c =

@@ -1,6 +1,6 @@
 use Rattle.std.proofs.Common.{sym, ◌∙◌}
-use Rattle.rbd.proofs.Cutting.{lines_of-filled, lines_of-empty, lines_of-last}
-use Rattle.rbd.proofs.lines.first_cut.Goals as goal
+use Rattle.rb_io.proofs.Cutting.{lines_of-filled, lines_of-empty, lines_of-last}
+use Rattle.rb_io.proofs.lines.first_cut.Goals as goal
 
 pub returns-in-Some-clause-filled : goal.returns-in-Some-clause-filled
 returns-in-Some-clause-filled c = lines_of-filled _ _ _ (cc) c.without_return.ensures.content

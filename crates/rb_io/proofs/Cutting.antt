@@ -3,8 +3,8 @@ use Rattle.std.proofs.Common.{◌≡◌, ◌<◌, ◌+◌, ◌-◌, ℕ, List, [
 use Rattle.std.proofs.lemmas.List.{length-take-le, nil_from_length}
 use Rattle.std.specs.List.{slice_split}
 use Rattle.std.specs.Str.Lines.{strip_carriage_return}
-use Rattle.rbd.specs.Cut.{Line, line, is_line_feed, has_bytes, lines_cut, lines_of}
-use Rattle.rbd.proofs.Splits.{slice_split-some, slice_split-none, slice_split-some_part, position-within}
+use Rattle.rb_io.specs.Cut.{Line, line, is_line_feed, has_bytes, lines_cut, lines_of}
+use Rattle.rb_io.proofs.Splits.{slice_split-some, slice_split-none, slice_split-some_part, position-within}
 
 abbrev kept : List Line → List Line
 kept lines = filter (λ line. has_bytes line.content) lines

@@ -1,4 +1,4 @@
--- How the input is cut into lines.
+-- How a text is cut into lines.
 use Rattle.std.specs.Prelude.{ℕ, ◌==◌, List, [], ◌∷◌, Bool, true, false, length, filter}
 use Rattle.std.specs.List.{slice_split}
 use Rattle.std.specs.Str.Lines.{strip_carriage_return}
@@ -24,6 +24,6 @@ abbrev pub has_bytes : List ℕ → Bool
 has_bytes [] = false
 has_bytes (byte ∷ bytes) = true
 
--- the lines of an input that are not empty
+-- the lines of a text that are not empty
 unfoldable pub lines_of : List ℕ → List Line
 lines_of text = filter (λ line. has_bytes line.content) (lines_cut (slice_split is_line_feed text))

@@ -1,9 +1,12 @@
-//! Cutting the input into lines.
+//! Lines of a text.
 ghost use Rattle.std.specs.Prelude.{◌≡◌, ◌≤◌, ◌<◌, [], ◌∷◌, length, position, IfSome, MatchOption};
 ghost use Rattle.std.specs.Str.Lines.{strip_carriage_return};
-ghost use Rattle.rbd.specs.Cut.{is_line_feed, line, lines_of};
+ghost use Rattle.rb_io.specs.Cut.{is_line_feed, line, lines_of};
 
-/// A line of an input, and what is behind it.
+/// The most bytes of a line, without its LF.
+pub const MOST_LINE: usize = 65_536;
+
+/// A line of a text, and what is behind it.
 #[derive(Clone, Copy, Debug)]
 pub struct Cut<'a> {
     /// The line without its end.
