@@ -1,8 +1,10 @@
 pub mod Records
+pub mod PlainLines
 pub mod Targets
 pub mod Differ
 pub mod HeaderSteps
 pub mod RowSteps
+pub mod PlainRows
 pub mod Putting
 pub mod HeadNames
 pub mod TextLines

@@ -15,7 +15,7 @@ use Rattle.rb_rows.specs.Columns.{state_columns, state_targets}
 use Rattle.rb_rows.specs.declared.task.Task.{Task}
 use Rattle.rb_rows.specs.Head.{line_of, head_fields}
 use Rattle.rb_rows.specs.Header.{is_remark, header_of, HasPlaces}
-use Rattle.rb_rows.specs.Record.{fields_in}
+use Rattle.rb_rows.specs.Record.{fields_in, is_plain, parts_of}
 use Rattle.rb_rows.specs.Row.{row_of}
 
 -- ---- headers
@@ -89,6 +89,10 @@ abbrev pub RowTellsNumbers : Type 0
 RowTellsNumbers =
     (tree : Tree) (first line : List ℕ) (targets : List Target) (old new : Row) → AreBodies tree.bodies → header_of tree first ≡ Ok targets → HasPlaces targets old →
     row_of targets line old ≡ Ok new → (fields : List (List ℕ)) × (fields_in line ≡ Some fields) × IsRowOf targets fields old new
+
+-- a plain line is one record, whose fields are what stands between its commas
+abbrev pub PlainLineSplits : Type 0
+PlainLineSplits = (line : List ℕ) → is_plain line ≡ true → fields_in line ≡ Some (parts_of line)
 
 -- ---- lines of names
 -- the line is a text with LF behind it, and the text is read as these

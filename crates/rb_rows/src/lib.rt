@@ -7,6 +7,7 @@ mod head;
 mod header;
 mod laws;
 mod names;
+mod plain;
 mod record;
 mod row;
 mod task;

@@ -6,10 +6,12 @@ ghost use Rattle.rb_tree.specs.State.{Fits};
 ghost use Rattle.rb_rows.specs.declared.faults.FieldFault.{FieldFault};
 ghost use Rattle.rb_rows.specs.declared.faults.LineFault.TheVariants as LineFault;
 ghost use Rattle.rb_rows.specs.Header.{HasPlace, HasPlaces};
+ghost use Rattle.rb_rows.specs.Record.{parts_of};
 ghost use Rattle.rb_rows.specs.Row.{with_number, told, filled, row_told, row_of, IsAlike};
 
 use crate::faults::{FieldFault, FieldKind, LineFault, kind_of};
 use crate::header::{Header, Target};
+use crate::plain::{field_count, first_field, is_plain};
 use crate::record::read_line;
 use csv::ByteRecord;
 use rb_num::Iv;
@@ -99,6 +101,63 @@ fn read_record(
     read_fields(header, fields, into)
 }
 
+/// Reads a line by a reader of comma-separated values into a state.
+fn read_any_line(
+    alloc: Global,
+    header: &Header,
+    line: &[u8],
+    into: &mut State,
+) -> Result<(), LineFault>
+    requires places { HasPlaces header.now into.old }
+    requires short { length line.now ≤ MOST_LINE }
+    ensures ok { OnOk result (row_of header.now line.now into.old ≡ Ok into.new) }
+    ensures err { (fault : FieldFault) → result ≡ Err (LineFault.Field fault) → row_of header.now line.now into.old ≡ Err fault }
+    ensures memory { result ≡ Err LineFault.Memory → into.new ≡ into.old }
+    ensures alike { IsAlike into.old into.new }
+{
+    let mut fields = ByteRecord::new(alloc);
+    let one = read_line(alloc, line, &mut fields)?;
+    read_record(header, one, &fields, into)?;
+    Ok(())
+}
+
+/// Reads the fields of a plain line into a state.
+fn read_parts(header: &Header, line: &[u8], into: &mut State) -> Result<(), FieldFault>
+    requires places { HasPlaces header.now into.old }
+    requires few { length (parts_of line.now) ≤ MOST_LINE + 1 }
+    requires count { length (parts_of line.now) ≡ length header.now }
+    ensures ok { OnOk result (filled 1 header.now (parts_of line.now) into.old ≡ Ok into.new) }
+    ensures err { IfErr result (λ fault. filled 1 header.now (parts_of line.now) into.old ≡ Err fault) }
+    ensures alike { IsAlike into.old into.new }
+{
+    let targets = header.targets();
+    let mut rest = line;
+    for index in 0..targets.len() {
+        let (part, others) = first_field(rest);
+        read_field(into, targets[index], index as u32 + 1, part)?;
+        rest = others;
+    }
+    Ok(())
+}
+
+/// Reads a plain line into a state.
+fn read_plain_line(header: &Header, line: &[u8], into: &mut State) -> Result<(), FieldFault>
+    requires places { HasPlaces header.now into.old }
+    requires short { length line.now ≤ MOST_LINE }
+    ensures ok { OnOk result (row_told header.now (Some (parts_of line.now)) into.old ≡ Ok into.new) }
+    ensures err { IfErr result (λ fault. row_told header.now (Some (parts_of line.now)) into.old ≡ Err fault) }
+    ensures alike { IsAlike into.old into.new }
+{
+    let count = field_count(line);
+    if count != header.targets().len() {
+        return Err(FieldFault {
+            kind: FieldKind::Count,
+            field: count as u32,
+        });
+    }
+    read_parts(header, line, into)
+}
+
 /// Reads a line into a state: a number for each field of the header. A remark, an empty field, and what the header does not name leave what the state has.
 ///
 /// It is refused with `Count` where the line has not one field for each of the header's, and else for its first bad field. The state then has any numbers.
@@ -116,8 +175,9 @@ pub fn read_row(
     ensures alike { IsAlike into.old into.new }
     ensures fits { (tree : Tree) → Fits tree into.old → Fits tree into.new }
 {
-    let mut fields = ByteRecord::new(alloc);
-    let one = read_line(alloc, line, &mut fields)?;
-    read_record(header, one, &fields, into)?;
+    if !is_plain(line) {
+        return read_any_line(alloc, header, line, into);
+    }
+    read_plain_line(header, line, into)?;
     Ok(())
 }

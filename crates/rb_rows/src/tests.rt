@@ -262,6 +262,27 @@ fn rows_tell_the_numbers_of_their_columns(rt: HostRuntime) {
 }
 
 #[test]
+fn lines_with_and_without_quotes_tell_the_same(rt: HostRuntime) {
+    let alloc = rt.alloc();
+    let Some(arm) = robot_on(alloc, ARM, None) else {
+        return assert!(rt; false);
+    };
+    assert!(rt; tells(alloc, &arm, b",noon,2,", [0, 0], 2 * ONE));
+    assert!(rt; tells(alloc, &arm, b"\"\",noon,2,", [0, 0], 2 * ONE));
+    assert!(rt; tells(alloc, &arm, b"\r,noon,2,", [0, 0], 2 * ONE));
+    assert!(rt; tells(alloc, &arm, b"\xEF\xBB\xBF,noon,2,", [0, 0], 2 * ONE));
+    assert!(rt; tells(alloc, &arm, b"1,\xEF\xBB\xBF,2,3", [3 * ONE, ONE], 2 * ONE));
+    let names = b"v.turn";
+    let one = [exactly(0), exactly(5 * ONE), exactly(0)];
+    assert!(rt; matches!(told(alloc, &arm, names, b"5"), Some(Ok(found)) if found == one));
+    assert!(rt; matches!(told(alloc, &arm, names, b"\"5\""), Some(Ok(found)) if found == one));
+    assert!(rt; is_refused(alloc, &arm, names, b"5\"", FieldKind::NotNumber, 1));
+    assert!(rt; is_refused(alloc, &arm, names, b"\xEF5", FieldKind::NotNumber, 1));
+    assert!(rt; is_refused(alloc, &arm, names, b"5,", FieldKind::Count, 2));
+    assert!(rt; is_refused(alloc, &arm, names, b"5\r5", FieldKind::Count, 0));
+}
+
+#[test]
 fn rows_are_refused_at_their_first_bad_field(rt: HostRuntime) {
     let alloc = rt.alloc();
     let Some(arm) = robot_on(alloc, ARM, None) else {

@@ -1,22 +1,16 @@
-use Rattle.std.proofs.Common.{◌≡◌, ◌∙◌, ap, Err}
+use Rattle.std.proofs.Common.{◌≡◌, ◌∙◌, ap, sym, Err}
 use Rattle.std.proofs.lemmas.Result.{err_from_is_err_and}
-use Rattle.rb_rows.proofs.RowSteps.{row_of_record, fits_still}
+use Rattle.rb_rows.proofs.PlainRows.{row_of_plain}
 use Rattle.rb_rows.proofs.row.read_row.Goals as goal
+
+pub returns-in_err-read_plain_line-clause-err : goal.returns-in_err-read_plain_line-clause-err
+returns-in_err-read_plain_line-clause-err c fault is =
+    let p = err_from_is_err_and c.from_residual.result c.from_residual.ensures.1 in
+    let answers = p.1 in
+    let of_field = p.2 in
+    let same : c.in_err-read_plain_line.field-0.0 ≡ fault = cc in
+    row_of_plain c.args.header.now c.args.line.now c.args.into.now (sym c.is_plain.ensures ∙ c.if-not-is_plain.false) ∙ c.in_err-read_plain_line.ensures.err ∙ ap Err same
 
 pub returns-clause-ok : goal.returns-clause-ok
 returns-clause-ok c =
-    row_of_record c.args.header.now c.args.line.now c.args.into.now c.in_ok-one.one _ c.in_ok-one.ensures.one c.in_ok-one.ensures.fields ∙ c.in_ok-read_record.ensures.ok
-
-pub returns-in_err-read_record-clause-err : goal.returns-in_err-read_record-clause-err
-returns-in_err-read_record-clause-err c fault is =
-    let p = err_from_is_err_and c.from_residual-in_err-read_record.result c.from_residual-in_err-read_record.ensures.1 in
-    let answers = p.1 in
-    let of_field = p.2 in
-    let same : c.in_err-read_record.field-0.0 ≡ fault = cc in
-    row_of_record c.args.header.now c.args.line.now c.args.into.now c.in_ok-one.one _ c.in_ok-one.ensures.one c.in_ok-one.ensures.fields ∙ c.in_err-read_record.ensures.err ∙ ap Err same
-
-pub returns-in_err-read_record-clause-fits : goal.returns-in_err-read_record-clause-fits
-returns-in_err-read_record-clause-fits c = fits_still _ _ c.in_err-read_record.ensures.alike
-
-pub returns-clause-fits : goal.returns-clause-fits
-returns-clause-fits c = fits_still _ _ c.in_ok-read_record.ensures.alike
+    row_of_plain c.args.header.now c.args.line.now c.args.into.now (sym c.is_plain.ensures ∙ c.if-not-is_plain.false) ∙ c.in_ok-read_plain_line.ensures.ok
