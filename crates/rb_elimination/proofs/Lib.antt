@@ -1,0 +1,11 @@
+pub mod Paths
+pub mod Numbers
+pub mod Sums
+pub mod Triangle
+pub mod Product
+pub mod Dense
+pub mod Lower
+pub mod Solutions
+pub mod Exists
+pub mod Related
+pub mod Examples
