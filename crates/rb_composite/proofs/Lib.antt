@@ -1,0 +1,14 @@
+pub mod Forms
+pub mod Functionals
+pub mod Paths
+pub mod Joints
+pub mod Seen
+pub mod Telescope
+pub mod Pairs
+pub mod Gathered
+pub mod Exists
+pub mod Apart
+pub mod Once
+pub mod Mass
+pub mod Rigid
+pub mod Owners
