@@ -1,3 +1,4 @@
 pub mod Numbers
 pub mod Torques
 pub mod Enclosing
+pub mod Answered

@@ -3,11 +3,13 @@ ghost use Rattle.rb_sweep.specs.Sweep.{Answers};
 ghost use Rattle.rb_tree.specs.Places.{IsFor};
 ghost use Rattle.rb_tree.specs.State.{Fits};
 ghost use Rattle.rb_rnea.specs.Dynamics.{IsRefused, answer_of};
+ghost use Rattle.rb_run.specs.Answers.{IsAnsweredBy};
 ghost use Rattle.rb_run.specs.Meaning.{Encloses};
-ghost use Rattle.rb_run.specs.Slots.{value_count};
+ghost use Rattle.rb_run.specs.Slots.{value_count, IsSlotOf};
 ghost use Rattle.rb_rows.specs.declared.task.Task.TheVariants.{Rnea};
 
 use crate::job::Job;
+use crate::slot::{Answer, Slot, SlotInput};
 use crate::values::Values;
 use rb_rnea::rnea;
 use rb_tree::State;
@@ -36,10 +38,34 @@ pub fn answer_row(
     // there are values in which each name before one is what its rule gives, and the rule of that one refuses so
     ensures refused { IfErr result (IsRefused job.now.robot state.now) }
 
+    // and then the values are as they were
+    ensures kept { IfErr result (λ _. values.new ≡ values.old) }
+
     ensures length { length values.new ≡ length values.old }
     ensures work { IsFor job.now.robot work.new }
 {
     rnea(&job.robot, state, work)?;
     values.take_torques(&job.robot, work);
     Ok(())
+}
+
+/// Answers the row of a slot, if it holds one. It takes no memory.
+///
+/// A slot without a row has no answer, and a row of which a field is wrong tells which. The row's number, what it told and its state stay.
+pub fn answer_slot(job: &Job, slot: &mut Slot, work: &mut Work)
+    requires task { job.now.task ≡ Rnea }
+    requires slot { IsSlotOf job.now slot.old }
+    requires work { IsFor job.now.robot work.old }
+    ensures exact { IsAnsweredBy job.now slot.old.input slot.old slot.new }
+    ensures slot { IsSlotOf job.now slot.new }
+    ensures work { IsFor job.now.robot work.new }
+{
+    slot.answer = match slot.input {
+        SlotInput::Idle => Answer::Idle,
+        SlotInput::Bad(fault) => Answer::Bad(fault),
+        SlotInput::Row => match answer_row(job, &slot.state, work, &mut slot.values) {
+            Ok(()) => Answer::Done,
+            Err(fault) => Answer::Refused(fault),
+        },
+    };
 }

@@ -7,9 +7,9 @@ mod line;
 mod slot;
 mod values;
 
-pub use answer::answer_row;
+pub use answer::{answer_row, answer_slot};
 pub use job::Job;
-pub use line::{line_room, put_line};
+pub use line::{line_room, put_line, put_number};
 pub use rb_rows::Task;
 pub use slot::{Answer, Slot, SlotInput};
 pub use values::Values;

@@ -19,7 +19,7 @@ use rb_tree::{Robot, State};
 use rb_work::{Name, RowFault};
 
 /// Puts a number in digits.
-fn put_number(number: u64, out: &mut Out)
+pub fn put_number(number: u64, out: &mut Out)
     requires { 20 ≤ out.old.spare }
     ensures bytes { out.new.bytes ≡ out.old.bytes ++ decimal number }
     ensures spare { out.new.spare + length (decimal number) ≡ out.old.spare }

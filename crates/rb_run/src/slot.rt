@@ -1,4 +1,5 @@
 ghost use Rattle.std.specs.Prelude.{◌≡◌, IfOk};
+ghost use Rattle.rb_run.specs.Answers.{is_refused};
 ghost use Rattle.rb_run.specs.Slots.{new_slot, IsSlotOf};
 
 use crate::job::Job;
@@ -57,5 +58,12 @@ impl Slot {
             values,
             answer: Answer::Idle,
         })
+    }
+
+    /// Whether it has no values.
+    pub fn is_refused(&self) -> bool
+        ensures { result ≡ is_refused self.now }
+    {
+        !matches!(self.answer, Answer::Done)
     }
 }

@@ -74,34 +74,14 @@ fn slot_of(alloc: Global, job: &Job, row: u64, up: Iv) -> Result<Slot, AllocErro
     Ok(slot)
 }
 
-fn answer_of(found: Result<(), RowFault>) -> Answer
-    ensures { ¬ result ≡ Idle }
-{
-    match found {
-        Ok(()) => Answer::Done,
-        Err(fault) => Answer::Refused(fault),
-    }
-}
-
-// Answers the row of a slot.
-fn answer_slot(job: &Job, work: &mut Work, slot: &mut Slot)
-    requires task { job.now.task ≡ Rnea }
-    requires slot { IsSlotOf job.now slot.old }
-    requires work { IsFor job.now.robot work.old }
-    ensures slot { IsSlotOf job.now slot.new }
-    ensures answered { ¬ slot.new.answer ≡ Idle }
-{
-    let found = answer_row(job, &slot.state, work, &mut slot.values);
-    slot.answer = answer_of(found);
-}
-
 // The line of the row of this number in which the first column has this acceleration.
 fn lifted(alloc: Global, job: &Job, row: u64, up: Iv) -> Result<Out, AllocError>
     requires { job.now.task ≡ Rnea }
 {
     let mut slot = slot_of(alloc, job, row, up)?;
+    slot.input = SlotInput::Row;
     let mut work = work_for(alloc, &job.robot)?;
-    answer_slot(job, &mut work, &mut slot);
+    answer_slot(job, &mut slot, &mut work);
     line_of(alloc, job, &slot)
 }
 
@@ -217,4 +197,23 @@ fn types_are_shared(_rt: HostRuntime) {
     is_shared::<Task>();
     is_shared::<SlotInput>();
     is_shared::<Answer>();
+}
+
+#[test]
+fn slots_without_a_state_are_answered(rt: HostRuntime) -> Result<(), Fail> {
+    let alloc = rt.alloc();
+    let job = job_of(alloc, LIFT, false).ok_or("the robot is built")?;
+    let mut slot = Slot::new(alloc, &job)?;
+    let mut work = work_for(alloc, &job.robot)?;
+    answer_slot(&job, &mut slot, &mut work);
+    assert_eq!(rt; slot.answer, Answer::Idle);
+    let fault = FieldFault {
+        kind: FieldKind::Count,
+        field: 3,
+    };
+    slot.input = SlotInput::Bad(fault);
+    answer_slot(&job, &mut slot, &mut work);
+    assert_eq!(rt; slot.answer, Answer::Bad(fault));
+    assert!(rt; slot.is_refused());
+    Ok(())
 }

@@ -1,0 +1,76 @@
+-- What is answered to a row.
+use Rattle.std.specs.Prelude.{◌≡◌, ℕ, ◌+◌, List, [], ◌∷◌, Bool, not, replicate, Result, Ok, Err}
+use Rattle.rb_num.specs.Interval.{Interval, zero_interval}
+use Rattle.rb_tree.specs.State.{Row}
+use Rattle.rb_work.specs.declared.names.RowFault.{RowFault}
+use Rattle.rb_rnea.specs.Dynamics.{answer_of}
+use Rattle.rb_rows.specs.declared.faults.FieldFault.{FieldFault}
+use Rattle.rb_run.specs.declared.job.Job.{Job}
+use Rattle.rb_run.specs.declared.slot.Answer.TheVariants as Answer
+use Rattle.rb_run.specs.declared.slot.Slot.{Slot}
+use Rattle.rb_run.specs.declared.slot.SlotInput.{SlotInput}
+use Rattle.rb_run.specs.declared.slot.SlotInput.TheVariants as Input
+use Rattle.rb_run.specs.Line.{is_done}
+use Rattle.rb_run.specs.Slots.{value_count, new_slot}
+
+-- ---- answers
+-- a slot that holds no row has no answer, and one of a row whose fields are wrong tells which; the values of a state are those that are defined, or
+-- the first refusal is told
+abbrev pub HasAnswer : Result (List Interval) RowFault → Slot → Slot → Type 0
+HasAnswer (Ok values) old new = new ≡ record old { values = values; answer = Answer.Done }
+HasAnswer (Err fault) old new = new ≡ record old { answer = Answer.Refused fault }
+
+abbrev pub IsAnsweredBy : Job → SlotInput → Slot → Slot → Type 0
+IsAnsweredBy job Input.Idle old new = new ≡ record old { answer = Answer.Idle }
+IsAnsweredBy job (Input.Bad fault) old new = new ≡ record old { answer = Answer.Bad fault }
+IsAnsweredBy job Input.Row old new = HasAnswer (answer_of job.robot old.state) old new
+
+-- ---- what a row told
+-- a state, or what is wrong with the row's fields
+abbrev pub Told : Type 0
+Told = Result Row FieldFault
+
+abbrev pub HasInput : Slot → Told → Type 0
+HasInput slot (Ok row) = (slot.input ≡ Input.Row) × (slot.state ≡ row)
+HasInput slot (Err fault) = slot.input ≡ Input.Bad fault
+
+-- the slot holds the row of this number, which told this
+pub record Holds (slot : Slot) (number : ℕ) (told : Told) : Type 0 where
+  pub row : slot.row ≡ number
+  pub input : HasInput slot told
+
+-- ---- rows with their answers
+abbrev pub done_slot : ℕ → Row → List Interval → Slot
+done_slot number row values = record { row = number; input = Input.Row; state = row; values = values; answer = Answer.Done }
+
+-- no value is told: they are zero here
+abbrev pub refused_slot : Job → ℕ → Row → RowFault → Slot
+refused_slot job number row fault = record {
+  row = number;
+  input = Input.Row;
+  state = row;
+  values = replicate (value_count job.robot job.task) zero_interval;
+  answer = Answer.Refused fault;
+}
+
+-- nor is a number of the state: it is the neutral one here
+abbrev pub bad_slot : Job → ℕ → FieldFault → Slot
+bad_slot job number fault = record (new_slot job) { row = number; input = Input.Bad fault; answer = Answer.Bad fault }
+
+abbrev pub slot_by : Job → ℕ → Row → Result (List Interval) RowFault → Slot
+slot_by job number row (Ok values) = done_slot number row values
+slot_by job number row (Err fault) = refused_slot job number row fault
+
+-- the row of this number, which told this, with its answer
+abbrev pub slot_of : Job → ℕ → Told → Slot
+slot_of job number (Ok row) = slot_by job number row (answer_of job.robot row)
+slot_of job number (Err fault) = bad_slot job number fault
+
+-- rows that are numbered from this number on
+abbrev pub slots_from : Job → ℕ → List Told → List Slot
+slots_from job number [] = []
+slots_from job number (told ∷ others) = slot_of job number told ∷ slots_from job (number + 1) others
+
+-- the row has no values
+abbrev pub is_refused : Slot → Bool
+is_refused slot = not (is_done slot.answer)
