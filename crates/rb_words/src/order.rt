@@ -1,0 +1,43 @@
+ghost use Rattle.std.specs.Prelude.{◌≡◌, IfOk};
+ghost use Rattle.rb_words.specs.Words.{order_word, order_of, IsBuilt};
+
+use crate::faults::WordsFault;
+use rb_rows::Task;
+
+/// What is put out.
+#[derive(Clone, Copy, Debug, PartialEq, Eq)]
+pub enum Order {
+    /// A line for each row, of the values that this task computes.
+    Rows(Task),
+    /// The robot as it is built.
+    Model,
+    /// The names of the columns that rows may have.
+    Columns,
+}
+
+impl Order {
+    /// Its word, as `--task` has it.
+    pub fn word(self) -> &'static str
+        ensures { result.now ≡ order_word self }
+    {
+        match self {
+            Order::Rows(task) => task.word(),
+            Order::Model => "model",
+            Order::Columns => "columns",
+        }
+    }
+}
+
+/// The order of this word.
+#[tactic(auto, unfolding(crate::specs::Words::order_of))]
+pub(crate) fn read_order(word: &str) -> Result<Order, WordsFault>
+    ensures exact { result ≡ order_of word.now }
+    ensures built { IfOk result IsBuilt }
+{
+    match word {
+        "rnea" => Ok(Order::Rows(Task::Rnea)),
+        "model" => Ok(Order::Model),
+        "columns" => Ok(Order::Columns),
+        _ => Err(WordsFault::Task),
+    }
+}
