@@ -1,0 +1,5 @@
+pub mod ReadingBack
+pub mod Numbered
+pub mod Joined
+pub mod Parts
+pub mod ModelLaws
