@@ -1,17 +1,19 @@
 -- The steps of a run, up to where one of them ends it.
-use Rattle.std.proofs.Common.{◌≡◌, ◌≢◌, ◌<◌, ◌≤◌, ℕ, ◌==◌, Bool, true, false, cond, ltb, IsTrue, List, [], ◌∷◌, length, codes, Option, Some, None, IsSomeAnd, Result, Ok, Err, refl, sym, ap, ◌∙◌, ◌⊎◌, inl, inr, arith, subst}
+use Rattle.std.proofs.Common.{◌≡◌, ◌≢◌, ◌<◌, ◌≤◌, ℕ, Bool, true, false, ltb, IsTrue, List, length, Option, Some, None, IsSomeAnd, Result, Ok, Err, refl, sym, ap, ◌∙◌, ◌⊎◌, inl, inr, arith, subst}
 use Rattle.std.proofs.lemmas.Bool.Decides.{nat_tests}
 use Rattle.rb_io.specs.Outside.{Rose}
-use Rattle.rb_result.specs.Steps.{◌>>=◌, told_as}
-use Rattle.std.specs.Str.{bytes_eq}
-use Rattle.rb_tags.specs.declared.root.RootKind.{RootKind}
-use Rattle.rb_tags.specs.declared.root.RootKind.TheVariants.{Fixed, Planar, Floating}
+use Rattle.rb_result.specs.Steps.{told_as}
 use Rattle.rb_tree.specs.declared.faults.WhichFile.{WhichFile}
 use Rattle.rb_tree.specs.Robot.{Tree}
 use Rattle.rb_tree.specs.State.{Row}
 use Rattle.rb_tree.specs.States.{HasState}
-use Rattle.rbd.specs.declared.stop.UsageFault.{UsageFault}
-use Rattle.rbd.specs.declared.stop.UsageFault.TheVariants.{Words, Root, State}
+use Rattle.rbd.specs.declared.stop.UsageFault.TheVariants.{Words, State}
+use Rattle.rb_words.specs.declared.faults.WordsFault.{WordsFault}
+use Rattle.rb_words.specs.declared.faults.WordsStop.{WordsStop}
+use Rattle.rb_words.specs.declared.faults.WordsStop.TheVariants as of_words
+use Rattle.rb_words.specs.declared.order.Order.TheVariants as order
+use Rattle.rb_words.specs.Words.{Asked, command_of}
+use Rattle.rb_run.specs.declared.job.Job.{Job}
 use Rattle.rbd.specs.declared.stop.StartStop.{StartStop}
 use Rattle.rbd.specs.declared.stop.StartStop.TheVariants as start
 use Rattle.rbd.specs.declared.stop.RobotFault.{RobotFault}
@@ -26,14 +28,13 @@ use Rattle.rbd.specs.declared.stop.Stop.{Stop}
 use Rattle.rbd.specs.declared.stop.Stop.TheVariants.{Usage, Robot, Rows, Input, Output, Memory}
 use Rattle.rbd.specs.declared.status.Status.{Status}
 use Rattle.rbd.specs.declared.status.Status.TheVariants as status
-use Rattle.rbd.specs.Words.{Command, command, command_of, options_of, option_in, root_in, kind_of, is_inverse}
-use Rattle.rbd.specs.Plan.{plan, files_of, IsPlan, IsRobotOf, IsRefused, IsStart, IsMisused, most_file}
+use Rattle.rbd.specs.Plan.{Plan, plan, plan_of, files_of, IsRobotOf, IsRefused, IsStart, most_file}
 use Rattle.rbd.specs.Inputs.{most_rows, rows_of, rows_of_lines}
-use Rattle.rbd.specs.Cut.{lines_of}
+use Rattle.rb_io.specs.Cut.{lines_of}
 use Rattle.rbd.specs.Course.{IsCourse, stopped, course_of, course_of_rows}
 use Rattle.rbd.specs.Ends.{status_of}
-use Rattle.rbd.specs.Run.{Source, Stream, is_plain, Follows, EndsEarly, HasCourse, IsUsage, Goes, IsOfCourse, IsComplete}
-use Rattle.rbd.specs.Stops.{IfFault, stop_of_read, stop_of_rows, stop_of_start}
+use Rattle.rbd.specs.Run.{Source, Stream, is_plain, Follows, EndsEarly, HasCourse, IsUsage, Obeys, Goes, IsOfCourse, IsComplete}
+use Rattle.rbd.specs.Stops.{IfFault, stop_of_read, stop_of_rows, stop_of_start, stop_of_words}
 use Rattle.rbd.proofs.Courses.{follows_stop, follows_refused}
 
 -- ---- bytes of the rows
@@ -55,7 +56,7 @@ pub record Untouched (out : Stream) : Type 0 where
   pub count : out.after ≡ out.before
   pub bytes : IsTrue out.tells → out.new ≡ out.old
 
-early : (out : Stream) (answer : Result Bool Stop) → is_plain answer ≡ false → Untouched out → EndsEarly out answer
+early : (out : Stream) (answer : Result Bool Stop) → (answer ≡ Err Input) ⊎ (answer ≡ Err Memory) → Untouched out → EndsEarly out answer
 early out answer fault kept = record { fault = fault; nothing = kept.bytes }
 
 -- for want of memory
@@ -67,11 +68,11 @@ goes_memory words inputs out same kept = record {
   long_rows = λ is. absurd cc;
   input = record { rose = λ is. absurd cc; kept = λ no. same };
   output = record { rose = λ is. absurd cc; kept = λ no. kept.count };
-  course = λ tells. inl (early out (Err Memory) refl kept);
+  course = λ tells. inl (early out (Err Memory) (inr refl) kept);
 }
 
 -- for a fault of an input, behind the words
-goes_input : (words : List (List ℕ)) (command : Command) (inputs : Source) (out : Stream) → command_of words ≡ Ok command → Rose inputs.before inputs.after → Untouched out → Goes words inputs out (Err Input)
+goes_input : (words : List (List ℕ)) (command : Asked) (inputs : Source) (out : Stream) → command_of words ≡ Ok command → Rose inputs.before inputs.after → Untouched out → Goes words inputs out (Err Input)
 goes_input words command inputs out told rose kept = record {
   usage = λ fault is. absurd cc;
   usage_always = λ fault other. absurd (cc (told, other));
@@ -79,77 +80,27 @@ goes_input words command inputs out told rose kept = record {
   long_rows = λ is. absurd cc;
   input = record { rose = λ is. rose; kept = λ no. absurd (no refl) };
   output = record { rose = λ is. absurd cc; kept = λ no. kept.count };
-  course = λ tells. inl (early out (Err Input) refl kept);
+  course = λ tells. inl (early out (Err Input) (inl refl) kept);
 }
-
--- the words alone are never refused for a state
-never_kind : (first second third : Bool) → cond first (Ok Fixed) (cond second (Ok Planar) (cond third (Ok Floating) (Err Root))) ≡ Err State → ⊥
-never_kind true second third is = absurd cc
-never_kind false true third is = absurd cc
-never_kind false false true is = absurd cc
-never_kind false false false is = let same : Root ≡ State = cc in absurd cc
-
-never_root : (kind : Result RootKind UsageFault) → (kind ≡ Err State → ⊥) → (kind >>= λ found. Ok (Some found)) ≡ Err State → ⊥
-never_root (Ok found) other is = absurd cc
-never_root (Err fault) other is = other (ap Err cc)
-
-never_in : (root : Option (List ℕ)) → root_in root ≡ Err State → ⊥
-unfolding root_in kind_of
-never_in None is = absurd cc
-never_in (Some kind) is =
-    never_root (kind_of kind) (never_kind (bytes_eq kind (codes "fixed")) (bytes_eq kind (codes "planar")) (bytes_eq kind (codes "floating"))) is
-
-never_ended : (none : Bool) (root : Result (Option RootKind) UsageFault) (file : List ℕ) (srdf state : Option (List ℕ)) → (root ≡ Err State → ⊥)
-    → cond none (root >>= λ kind. Ok (command file srdf state kind)) (Err Words) ≡ Err State → ⊥
-never_ended true (Ok kind) file srdf state other is = absurd cc
-never_ended true (Err fault) file srdf state other is = other (ap Err cc)
-never_ended false root file srdf state other is = let same : Words ≡ State = cc in absurd cc
-
-never_options : (file : List ℕ) (words : List (List ℕ)) → options_of file words ≡ Err State → ⊥
-unfolding options_of
-never_options file words is =
-    let srdf = option_in (codes "--srdf") words in
-    let state = option_in (codes "--state") srdf.1 in
-    let root = option_in (codes "--root") state.1 in
-    never_ended (length root.1 == 0) (root_in root.0) file srdf.0 state.0 (never_in root.0) is
-
-never_test : (is_task : Bool) (options : Result Command UsageFault) → (options ≡ Err State → ⊥) → cond is_task options (Err Words) ≡ Err State → ⊥
-never_test true options other is = other is
-never_test false options other is = let same : Words ≡ State = cc in absurd cc
-
-never_state : (words : List (List ℕ)) → command_of words ≡ Err State → ⊥
-unfolding command_of
-never_state [] is = let same : Words ≡ State = cc in absurd cc
-never_state (a ∷ []) is = let same : Words ≡ State = cc in absurd cc
-never_state (a ∷ b ∷ []) is = let same : Words ≡ State = cc in absurd cc
-never_state (a ∷ b ∷ c ∷ []) is = let same : Words ≡ State = cc in absurd cc
-never_state (a ∷ b ∷ c ∷ d ∷ []) is = let same : Words ≡ State = cc in absurd cc
-never_state (a ∷ task ∷ rnea ∷ urdf ∷ file ∷ behind) is = never_test (is_inverse task rnea urdf) (options_of file behind) (never_options file behind) is
-
-usage_of_words : (words : List (List ℕ)) (fault : UsageFault) → command_of words ≡ Err fault → IsUsage words fault
-usage_of_words words Words told = told
-usage_of_words words Root told = told
-usage_of_words words State told = absurd (never_state words told)
-
-misuse_of_words : (words : List (List ℕ)) (held : List ℕ → List ℕ) (fault : UsageFault) → command_of words ≡ Err fault → IsMisused words held fault
-misuse_of_words words held Words told = told
-misuse_of_words words held Root told = told
-misuse_of_words words held State told = absurd (never_state words told)
 
 -- for the words
-pub goes_usage : (words : List (List ℕ)) (inputs : Source) (out : Stream) (fault : UsageFault) → command_of words ≡ Err fault → inputs.after ≡ inputs.before → Untouched out → Goes words inputs out (Err (Usage fault))
-goes_usage words inputs out fault told same kept = record {
-  usage = λ other is. let e : fault ≡ other = cc in subst (IsUsage words) e (usage_of_words words fault told);
-  usage_always = λ other is. let e : fault ≡ other = cc (told, is) in inl (ap (λ (f : UsageFault). Err (Usage f)) e);
-  long_file = λ file is. absurd cc;
-  long_rows = λ is. absurd cc;
-  input = record { rose = λ is. absurd cc; kept = λ no. same };
-  output = record { rose = λ is. absurd cc; kept = λ no. kept.count };
-  course = λ tells. inr (record { course = stopped (Usage fault); is = IsCourse.stops (Usage fault) (misuse_of_words words inputs.holds fault told); follows = follows_stop (Usage fault) out kept.bytes });
-}
+pub goes_words : (words : List (List ℕ)) (inputs : Source) (out : Stream) (stop : WordsStop) → ((fault : WordsFault) → stop ≡ of_words.Fault fault → command_of words ≡ Err fault) → inputs.after ≡ inputs.before → Untouched out
+    → Goes words inputs out (Err (stop_of_words stop))
+goes_words words inputs out of_words.Memory told same kept = goes_memory words inputs out same kept
+goes_words words inputs out (of_words.Fault fault) told same kept =
+    let refused = told fault refl in
+    record {
+      usage = λ other is. let e : Words fault ≡ other = cc in subst (IsUsage words) e refused;
+      usage_always = λ other is. let e : fault ≡ other = cc (refused, is) in inl (ap (λ (f : WordsFault). Err (Usage (Words f))) e);
+      long_file = λ file is. absurd cc;
+      long_rows = λ is. absurd cc;
+      input = record { rose = λ is. absurd cc; kept = λ no. same };
+      output = record { rose = λ is. absurd cc; kept = λ no. kept.count };
+      course = λ tells. inr (record { course = stopped (Usage (Words fault)); is = IsCourse.stops (Usage (Words fault)) refused; follows = follows_stop (Usage (Words fault)) out kept.bytes });
+    }
 
 -- for the robot
-pub goes_robot : (words : List (List ℕ)) (command : Command) (inputs : Source) (out : Stream) (stop : ReadStop RobotFault) → command_of words ≡ Ok command
+pub goes_robot : (words : List (List ℕ)) (command : Asked) (inputs : Source) (out : Stream) (stop : ReadStop RobotFault) → command_of words ≡ Ok command
     → (IsTrue inputs.tells → IfFault (IsRefused command.root (files_of command inputs.holds)) stop) → ((file : WhichFile) → stop ≡ read.Fault (robot.TooLong file) → most_file < inputs.given)
     → (stop ≡ read.Input → Rose inputs.before inputs.after) → (stop ≢ read.Input → inputs.after ≡ inputs.before) → Untouched out → Goes words inputs out (Err (stop_of_read Robot stop))
 goes_robot words command inputs out (read.Fault fault) told refused long rose same kept = record {
@@ -170,7 +121,7 @@ goes_robot words command inputs out read.Memory told refused long rose same kept
 
 -- ---- behind the robot
 -- for a state that the robot has not, or want of memory for the state
-pub goes_start : (words : List (List ℕ)) (command : Command) (tree : Tree) (inputs : Source) (out : Stream) (stop : StartStop) → command_of words ≡ Ok command
+pub goes_start : (words : List (List ℕ)) (command : Asked) (tree : Tree) (inputs : Source) (out : Stream) (stop : StartStop) → command_of words ≡ Ok command
     → (IsTrue inputs.tells → IsRobotOf command.root (files_of command inputs.holds) tree)
     → (stop ≡ start.Memory) ⊎ ((stop ≡ start.NoState) × IsSomeAnd command.state (λ name. HasState tree.states name → ⊥)) → inputs.after ≡ inputs.before → Untouched out
     → Goes words inputs out (Err (stop_of_start stop))
@@ -193,81 +144,95 @@ goes_start words command tree inputs out stop told robot_is (inr (is, unknown)) 
       });
     }
 
-planned : (words : List (List ℕ)) (held : List ℕ → List ℕ) (command : Command) (tree : Tree) (from : Row) → command_of words ≡ Ok command → IsRobotOf command.root (files_of command held) tree
-    → IsStart tree command.state from → IsPlan words held (plan tree from)
-planned words held command tree from told is starts = record { command = command; told = told; robot = is; start = starts }
-
+-- ---- what is asked of the robot
 -- for the bytes of the rows
-pub goes_reading : (words : List (List ℕ)) (command : Command) (tree : Tree) (from : Row) (inputs : Source) (out : Stream) (stop : ReadStop RowsFault) → command_of words ≡ Ok command
-    → (IsTrue inputs.tells → IsRobotOf command.root (files_of command inputs.holds) tree) → IsStart tree command.state from → IfFault (λ fault. fault ≡ rows.TooLong) stop
-    → (IsTrue inputs.tells → stop ≡ read.Fault rows.TooLong → most_rows < length (inputs.holds (codes "-"))) → (stop ≡ read.Fault rows.TooLong → most_rows < inputs.given)
-    → (stop ≡ read.Input → Rose inputs.before inputs.after) → (stop ≢ read.Input → inputs.after ≡ inputs.before) → Untouched out → Goes words inputs out (Err (stop_of_read Rows stop))
-goes_reading words command tree from inputs out (read.Fault fault) told robot_is starts only longer long rose same kept = record {
-  usage = λ other is. absurd cc;
-  usage_always = λ other is. absurd (cc (told, is));
-  long_file = λ file is. absurd cc;
+pub obeys_reading : (job : Job) (from : Row) (name : List ℕ) (inputs : Source) (out : Stream) (stop : ReadStop RowsFault) → IfFault (λ fault. fault ≡ rows.TooLong) stop
+    → (IsTrue inputs.tells → stop ≡ read.Fault rows.TooLong → most_rows < length (inputs.holds name)) → (stop ≡ read.Fault rows.TooLong → most_rows < inputs.given)
+    → (stop ≡ read.Input → Rose inputs.before inputs.after) → (stop ≢ read.Input → inputs.after ≡ inputs.before) → Untouched out
+    → Obeys (plan (order.Rows job.task) job.robot from name job.echo) inputs out (Err (stop_of_read Rows stop))
+obeys_reading job from name inputs out (read.Fault fault) only longer long rose same kept = record {
+  late = refl;
   long_rows = λ is. long (ap read.Fault only);
   input = record { rose = λ is. absurd cc; kept = λ no. same (λ e. absurd cc) };
   output = record { rose = λ is. absurd cc; kept = λ no. kept.count };
-  course = λ tells. inr (record {
-    course = course_of (plan tree from) (inputs.holds (codes "-"));
-    is = IsCourse.goes (plan tree from) (planned words inputs.holds command tree from told (robot_is tells) starts);
-    follows = follows_refused (plan tree from) (rows_of tree (inputs.holds (codes "-"))) fault out
-        (rows_long tree (inputs.holds (codes "-")) (longer tells (ap read.Fault only)) ∙ ap Err (sym only)) kept.bytes;
-  });
+  course = λ tells. inr (follows_refused job from (rows_of job.robot (inputs.holds name)) fault out
+      (rows_long job.robot (inputs.holds name) (longer tells (ap read.Fault only)) ∙ ap Err (sym only)) kept.bytes);
 }
-goes_reading words command tree from inputs out read.Input told robot_is starts only longer long rose same kept = goes_input words command inputs out told (rose refl) kept
-goes_reading words command tree from inputs out read.Memory told robot_is starts only longer long rose same kept = goes_memory words inputs out (same (λ e. absurd cc)) kept
+obeys_reading job from name inputs out read.Input only longer long rose same kept = record {
+  late = refl;
+  long_rows = λ is. absurd cc;
+  input = record { rose = λ is. rose refl; kept = λ no. absurd (no refl) };
+  output = record { rose = λ is. absurd cc; kept = λ no. kept.count };
+  course = λ tells. inl (early out (Err Input) (inl refl) kept);
+}
+obeys_reading job from name inputs out read.Memory only longer long rose same kept = record {
+  late = refl;
+  long_rows = λ is. absurd cc;
+  input = record { rose = λ is. absurd cc; kept = λ no. same (λ e. absurd cc) };
+  output = record { rose = λ is. absurd cc; kept = λ no. kept.count };
+  course = λ tells. inl (early out (Err Memory) (inr refl) kept);
+}
 
--- ---- behind the rows
--- the rows were read whole, and answered as far as this
-module _ (words : List (List ℕ)) (command : Command) (tree : Tree) (from : Row) (inputs : Source) (out : Stream) (bytes : List ℕ) (told : command_of words ≡ Ok command)
-    (robot_is : IsTrue inputs.tells → IsRobotOf command.root (files_of command inputs.holds) tree) (starts : IsStart tree command.state from) (bytes_are : IsTrue inputs.tells → bytes ≡ inputs.holds (codes "-")) (short : length bytes ≤ most_rows)
-    (same : inputs.after ≡ inputs.before) where
-  has_course : (answer : Result Bool Stop) → Follows (course_of_rows (plan tree from) (rows_of_lines tree (lines_of bytes))) out answer → IsTrue inputs.tells → HasCourse words inputs.holds out answer
-  has_course answer follows tells = record {
-    course = course_of (plan tree from) (inputs.holds (codes "-"));
-    is = IsCourse.goes (plan tree from) (planned words inputs.holds command tree from told (robot_is tells) starts);
-    follows = subst (λ (read : List ℕ). Follows (course_of_rows (plan tree from) (rows_of tree read)) out answer) (bytes_are tells) (rw (rows_short tree bytes short) follows);
-  }
-
-  pub goes_answered : (answered : Result Bool RowsStop) → Follows (course_of_rows (plan tree from) (rows_of_lines tree (lines_of bytes))) out (told_as stop_of_rows answered) → (answered ≢ Err (part.Fault rows.TooLong))
-      → (answered ≡ Err part.Output → Rose out.before out.after) → (answered ≢ Err part.Output → out.after ≡ out.before) → Goes words inputs out (told_as stop_of_rows answered)
-  goes_answered (Ok refused) follows other rose kept = record {
-    usage = λ fault is. absurd cc;
-    usage_always = λ fault is. absurd (cc (told, is));
-    long_file = λ file is. absurd cc;
+-- a run along a course that an output alone can end early
+module _ (asked : Plan) (inputs : Source) (out : Stream) (same : inputs.after ≡ inputs.before) where
+  pub obeys_along : (answered : Result Bool RowsStop) → (IsTrue inputs.tells → Follows (course_of asked inputs.holds) out (told_as stop_of_rows answered)) → (answered ≢ Err (part.Fault rows.TooLong))
+      → (answered ≡ Err part.Output → Rose out.before out.after) → (answered ≢ Err part.Output → out.after ≡ out.before) → Obeys asked inputs out (told_as stop_of_rows answered)
+  obeys_along (Ok refused) follows other rose kept = record {
+    late = refl;
     long_rows = λ is. absurd cc;
     input = record { rose = λ is. absurd cc; kept = λ no. same };
     output = record { rose = λ is. absurd cc; kept = λ no. kept (λ e. absurd cc) };
-    course = λ tells. inr (has_course (Ok refused) follows tells);
+    course = λ tells. inr (follows tells);
   }
-  goes_answered (Err (part.Fault fault)) follows other rose kept = record {
-    usage = λ fault is. absurd cc;
-    usage_always = λ fault is. absurd (cc (told, is));
-    long_file = λ file is. absurd cc;
+  obeys_along (Err (part.Fault fault)) follows other rose kept = record {
+    late = refl;
     long_rows = λ is. let e : fault ≡ rows.TooLong = cc in absurd (other (ap (λ (f : RowsFault). Err (part.Fault f)) e));
     input = record { rose = λ is. absurd cc; kept = λ no. same };
     output = record { rose = λ is. absurd cc; kept = λ no. kept (λ e. let f : part.Fault fault ≡ part.Output = cc in absurd cc) };
-    course = λ tells. inr (has_course (Err (Rows fault)) follows tells);
+    course = λ tells. inr (follows tells);
   }
-  goes_answered (Err part.Output) follows other rose kept = record {
-    usage = λ fault is. absurd cc;
-    usage_always = λ fault is. absurd (cc (told, is));
-    long_file = λ file is. absurd cc;
+  obeys_along (Err part.Output) follows other rose kept = record {
+    late = refl;
     long_rows = λ is. absurd cc;
     input = record { rose = λ is. let f : Output ≡ Input = cc in absurd cc; kept = λ no. same };
     output = record { rose = λ is. rose refl; kept = λ no. absurd (no refl) };
-    course = λ tells. inr (has_course (Err Output) follows tells);
+    course = λ tells. inr (follows tells);
   }
-  goes_answered (Err part.Memory) follows other rose kept = record {
-    usage = λ fault is. absurd cc;
-    usage_always = λ fault is. absurd (cc (told, is));
-    long_file = λ file is. absurd cc;
+  obeys_along (Err part.Memory) follows other rose kept = record {
+    late = refl;
     long_rows = λ is. absurd cc;
     input = record { rose = λ is. let f : Memory ≡ Input = cc in absurd cc; kept = λ no. same };
     output = record { rose = λ is. let f : Memory ≡ Output = cc in absurd cc; kept = λ no. kept (λ e. let f : part.Memory ≡ part.Output = cc in absurd cc) };
-    course = λ tells. inr (has_course (Err Memory) follows tells);
+    course = λ tells. inr (follows tells);
+  }
+
+-- the rows were read whole
+pub rows_along : (job : Job) (from : Row) (name bytes : List ℕ) (inputs : Source) (out : Stream) (answer : Result Bool Stop) → (IsTrue inputs.tells → bytes ≡ inputs.holds name) → length bytes ≤ most_rows
+    → Follows (course_of_rows job from (rows_of_lines job.robot (lines_of bytes))) out answer → IsTrue inputs.tells → Follows (course_of (plan (order.Rows job.task) job.robot from name job.echo) inputs.holds) out answer
+rows_along job from name bytes inputs out answer bytes_are short follows tells =
+    subst (λ (read : List ℕ). Follows (course_of_rows job from (rows_of job.robot read)) out answer) (bytes_are tells) (rw (rows_short job.robot bytes short) follows)
+
+-- ---- behind what is asked
+module _ (words : List (List ℕ)) (command : Asked) (tree : Tree) (from : Row) (inputs inner : Source) (out : Stream) (told : command_of words ≡ Ok command)
+    (robot_is : IsTrue inputs.tells → IsRobotOf command.root (files_of command inputs.holds) tree) (starts : IsStart tree command.gravity command.state from)
+    (tells_same : inner.tells ≡ inputs.tells) (holds_same : inner.holds ≡ inputs.holds) (given_same : inner.given ≡ inputs.given) (before_same : inner.before ≡ inputs.before) (after_same : inner.after ≡ inputs.after) where
+  has_course : (answer : Result Bool Stop) → IsTrue inputs.tells → EndsEarly out answer ⊎ Follows (course_of (plan_of command tree from) inner.holds) out answer → EndsEarly out answer ⊎ HasCourse words inputs.holds out answer
+  has_course answer tells (inl ends) = inl ends
+  has_course answer tells (inr follows) = inr (record {
+    course = course_of (plan_of command tree from) inputs.holds;
+    is = IsCourse.goes (plan_of command tree from) (record { command = command; told = told; robot = robot_is tells; start = starts; asked = refl });
+    follows = subst (λ (holds : List ℕ → List ℕ). Follows (course_of (plan_of command tree from) holds) out answer) holds_same follows;
+  })
+
+  pub goes_obeyed : (answer : Result Bool Stop) → Obeys (plan_of command tree from) inner out answer → Goes words inputs out answer
+  goes_obeyed answer obeys = record {
+    usage = λ fault is. let late : false ≡ true = rw is at obeys.late in absurd cc;
+    usage_always = λ fault is. absurd (cc (told, is));
+    long_file = λ file is. let late : false ≡ true = rw is at obeys.late in absurd cc;
+    long_rows = λ is. rw given_same at (obeys.long_rows is);
+    input = record { rose = λ is. rw (before_same, after_same) at (obeys.input.rose is); kept = λ no. sym after_same ∙ obeys.input.kept no ∙ before_same };
+    output = obeys.output;
+    course = λ tells. has_course answer tells (obeys.course (rw tells_same tells));
   }
 
 -- ---- completeness
@@ -275,8 +240,12 @@ module _ (words : List (List ℕ)) (inputs : Source) (out : Stream) (ended : Sta
   plain_complete : (answer : Result Bool Stop) → is_plain answer ≡ true → Goes words inputs out answer → ended ≡ status_of answer → IsTrue inputs.tells → IsOfCourse words inputs.holds ended ⊎ (ended ≡ status.Memory)
   plain_complete answer plain goes is tells = by_course (goes.course tells)
     where
+      by_fault : (answer ≡ Err Input) ⊎ (answer ≡ Err Memory) → IsOfCourse words inputs.holds ended ⊎ (ended ≡ status.Memory)
+      by_fault (inl e) = let no : false ≡ true = rw e at plain in absurd cc
+      by_fault (inr e) = let no : false ≡ true = rw e at plain in absurd cc
+
       by_course : EndsEarly out answer ⊎ HasCourse words inputs.holds out answer → IsOfCourse words inputs.holds ended ⊎ (ended ≡ status.Memory)
-      by_course (inl stopped_early) = let no : false ≡ true = sym stopped_early.fault ∙ plain in absurd cc
+      by_course (inl stopped_early) = by_fault stopped_early.fault
       by_course (inr found) = inl (record { course = found.course; is = found.is; status = is ∙ ap status_of (found.follows.answers plain) })
 
   pub complete : (answer : Result Bool Stop) → Goes words inputs out answer → ended ≡ status_of answer → IsComplete words inputs out ended

@@ -1,12 +1,7 @@
-pub mod Splits
-pub mod Cutting
-pub mod Headers
-pub mod Reading
-pub mod Numbers
-pub mod Torques
 pub mod EachRow
 pub mod Refusals
 pub mod Utf8
 pub mod Courses
 pub mod Going
+pub mod Saying
 pub mod Meaning

@@ -1,5 +1,5 @@
 -- Why a robot's files are refused.
-use Rattle.std.proofs.Common.{◌≡◌, ◌<◌, ◌≤◌, ℕ, true, false, List, length, Option, Some, None, option_map, Result, Ok, Err, refl, sym, ◌⊎◌, inl, inr, ltb, arith, subst}
+use Rattle.std.proofs.Common.{◌≡◌, ◌<◌, ◌≤◌, ℕ, true, false, List, length, Option, Some, option_map, Result, Ok, Err, refl, sym, ◌⊎◌, inl, inr, ltb, arith, subst}
 use Rattle.std.proofs.lemmas.Bool.Decides.{nat_tests}
 use Rattle.rb_result.specs.Steps.{told_as}
 use Rattle.rb_io.specs.declared.calls.FileFault.{FileFault}
@@ -22,24 +22,22 @@ use Rattle.rb_srdf.specs.declared.faults.SrdfFaultKind.{SrdfFaultKind}
 use Rattle.rb_srdf.specs.declared.faults.SrdfFaultKind.TheVariants as srdf_kind
 use Rattle.rb_srdf.specs.Faults as Srdf
 use Rattle.rb_srdf.specs.Srdf.{Semantics}
-use Rattle.rb_srdf.specs.Read.{semantics_of}
 use Rattle.rb_srdf.specs.Read as Read
 use Rattle.rb_tree.specs.declared.faults.TreeFault.{TreeFault}
 use Rattle.rb_tree.specs.declared.faults.TreeKind.{TreeKind}
 use Rattle.rb_tree.specs.declared.faults.TreeKind.TheVariants as tree_kind
 use Rattle.rb_tree.specs.declared.faults.WhichFile.{WhichFile}
 use Rattle.rb_tree.specs.declared.faults.WhichFile.TheVariants as file
-use Rattle.rb_tree.specs.Build.{Source, IsBuilt}
+use Rattle.rb_tree.specs.Build.{Source}
 use Rattle.rb_tree.specs.Refusals.{HasFault}
 use Rattle.rb_tree.specs.Faults as Tree
-use Rattle.rb_tree.specs.Robot.{Tree as Robots}
 use Rattle.rbd.specs.declared.stop.RobotFault.{RobotFault}
 use Rattle.rbd.specs.declared.stop.RobotFault.TheVariants as why
 use Rattle.rbd.specs.declared.stop.Refusal.{Refusal}
 use Rattle.rbd.specs.declared.stop.Refusal.TheVariants as refusal
 use Rattle.rbd.specs.declared.stop.ReadStop.{ReadStop}
 use Rattle.rbd.specs.declared.stop.ReadStop.TheVariants as read
-use Rattle.rbd.specs.Plan.{most_file, Files, files, tags_in, urdf_in, odd_name, IsSemanticsIn, HasNoSemantics, IsRefusedBy, IsSource, IsUnfit, IsRefused}
+use Rattle.rbd.specs.Plan.{most_file, Files, files, tags_in, urdf_in, IsSemanticsIn, HasNoSemantics, IsRefusedBy, IsSource, IsUnfit, IsRefused}
 use Rattle.rbd.specs.Stops as stops
 use Rattle.rbd.specs.Stops.{IfRefused, IfFault, file_stop, refusal_of_tags, refusal_of_urdf, refusal_of_srdf, refusal_of_tree, stop_of_refusal}
 
@@ -181,16 +179,6 @@ of_tree_kind kind P fault is = is
 pub tree_refused : (source : Source) (fault : TreeFault) → (fault ≡ Tree.no_memory) ⊎ HasFault source fault → IfRefused (IsUnfit source) (refusal_of_tree fault)
 tree_refused source fault (inl is) = rw is tt
 tree_refused source fault (inr has) = of_tree_kind fault.kind (IsUnfit source) (why.Tree fault) has
-
--- a name that is not plain
-of_name : (source : Source) (tree : Robots) (odd : Option ℕ) (fault : RobotFault) → IsBuilt source tree → odd_name source.urdf ≡ odd → option_map why.Name odd ≡ Some fault → IsUnfit source fault
-of_name source tree None fault built odd is = absurd cc
-of_name source tree (Some place) fault built odd is =
-    let same : why.Name place ≡ fault = cc in
-    subst (IsUnfit source) same (record { tree = tree; built = built; first = odd })
-
-pub name_refused : (source : Source) (tree : Robots) (fault : RobotFault) → IsBuilt source tree → option_map why.Name (odd_name source.urdf) ≡ Some fault → IsUnfit source fault
-name_refused source tree fault built is = of_name source tree (odd_name source.urdf) fault built refl is
 
 -- ---- all files
 -- what both files tell, where the second was read from inputs that hold the same

@@ -1,15 +1,21 @@
 -- What a run answers and puts, from its plan and the bytes of the rows.
-use Rattle.std.specs.Prelude.{ℕ, List, [], ◌++◌, Bool, Option, Some, None, codes, Result, Ok, Err}
+use Rattle.std.specs.Prelude.{ℕ, List, [], ◌++◌, Bool, false, map, Option, Some, None, Result, Ok, Err}
 use Rattle.std.specs.List.{list_any, concat}
-use Rattle.rb_tree.specs.Columns.{column_count}
-use Rattle.rb_tree.specs.Robot.{Tree}
+use Rattle.rb_model.specs.Model.{model_text}
+use Rattle.rb_rows.specs.Columns.{state_columns}
+use Rattle.rb_rows.specs.Head as Head
+use Rattle.rb_tree.specs.State.{Row}
+use Rattle.rb_words.specs.declared.order.Order.{Order}
+use Rattle.rb_words.specs.declared.order.Order.TheVariants.{Rows as OfRows, Model, Columns}
+use Rattle.rb_run.specs.declared.job.Job.{Job}
+use Rattle.rb_run.specs.declared.slot.Slot.{Slot}
+use Rattle.rb_run.specs.Answers.{slots_from, is_refused}
+use Rattle.rb_run.specs.Line.{line_of}
 use Rattle.rbd.specs.declared.stop.RowsFault.{RowsFault}
 use Rattle.rbd.specs.declared.stop.Stop.{Stop}
 use Rattle.rbd.specs.declared.stop.Stop.TheVariants.{Rows as AtRows}
-use Rattle.rbd.specs.Answer.{Answer, answers_to, is_refused, lines_from}
-use Rattle.rbd.specs.Columns.{first_line}
 use Rattle.rbd.specs.Inputs.{Rows, rows_of, inputs_of, long_line}
-use Rattle.rbd.specs.Plan.{Plan, IsPlan, HasNoPlan}
+use Rattle.rbd.specs.Plan.{Plan, job_of, IsPlan, HasNoPlan}
 
 -- whether a row is refused, or why the run ends before its last row; and the bytes that it puts
 pub record Course : Type 0 where
@@ -20,30 +26,45 @@ pub record Course : Type 0 where
 abbrev pub stopped : Stop → Course
 stopped stop = record { answer = Err stop; put = [] }
 
+-- puts a text
+abbrev pub tells : List ℕ → Course
+tells text = record { answer = Ok false; put = text }
+
+-- ---- rows
+-- each row, by its number, with its answer
+abbrev pub slots_of : Job → Row → Rows → List Slot
+slots_of job start rows = slots_from job 1 (inputs_of start rows)
+
 -- ends at a line that is too long, or behind the last
-abbrev pub ending : Option RowsFault → List Answer → Result Bool Stop
-ending None answers = Ok (list_any is_refused answers)
-ending (Some fault) answers = Err (AtRows fault)
+abbrev pub ending : Option RowsFault → List Slot → Result Bool Stop
+ending None slots = Ok (list_any is_refused slots)
+ending (Some fault) slots = Err (AtRows fault)
 
-abbrev pub answers_of : Plan → Rows → List Answer
-answers_of plan rows = answers_to plan.tree (inputs_of plan.start rows)
+abbrev pub head_of : Job → List ℕ
+head_of job = Head.line_of (Head.head_fields job.robot job.task job.echo)
 
--- the first line, and a line for each row
-abbrev pub output_of : Tree → List Answer → List ℕ
-output_of tree answers = first_line tree ++ concat (lines_from 1 (column_count tree.bodies) answers)
+abbrev pub lines_of : Job → List Slot → List (List ℕ)
+lines_of job slots = map (line_of job.echo) slots
 
--- of the rows behind the header, and with the header
-abbrev pub course_behind : Plan → Rows → Course
-course_behind plan rows = record { answer = ending (long_line rows) (answers_of plan rows); put = concat (lines_from 1 (column_count plan.tree.bodies) (answers_of plan rows)) }
+-- of the rows behind the header, and with the header: the first line, and a line for each row
+abbrev pub course_behind : Job → Row → Rows → Course
+course_behind job start rows = record { answer = ending (long_line rows) (slots_of job start rows); put = concat (lines_of job (slots_of job start rows)) }
 
-abbrev pub course_of_rows : Plan → Result Rows RowsFault → Course
-course_of_rows plan (Err fault) = stopped (AtRows fault)
-course_of_rows plan (Ok rows) = record { answer = ending (long_line rows) (answers_of plan rows); put = output_of plan.tree (answers_of plan rows) }
+abbrev pub course_of_rows : Job → Row → Result Rows RowsFault → Course
+course_of_rows job start (Err fault) = stopped (AtRows fault)
+course_of_rows job start (Ok rows) =
+    record { answer = ending (long_line rows) (slots_of job start rows); put = head_of job ++ concat (lines_of job (slots_of job start rows)) }
 
-abbrev pub course_of : Plan → List ℕ → Course
-course_of plan bytes = course_of_rows plan (rows_of plan.tree bytes)
+-- ---- all
+abbrev pub course_by : Order → Plan → (List ℕ → List ℕ) → Course
+course_by (OfRows task) plan held = course_of_rows (job_of plan task) plan.start (rows_of plan.tree (held plan.rows))
+course_by Model plan held = tells (model_text plan.tree plan.start.q)
+course_by Columns plan held = tells (Head.line_of (state_columns plan.tree))
+
+abbrev pub course_of : Plan → (List ℕ → List ℕ) → Course
+course_of plan held = course_by plan.order plan held
 
 -- the course of a run: it has no plan, or goes by it
 pub data IsCourse (words : List (List ℕ)) (held : List ℕ → List ℕ) : Course → Type 0 where
   stops : (stop : Stop) → HasNoPlan words held stop → IsCourse words held (stopped stop)
-  goes : (plan : Plan) → IsPlan words held plan → IsCourse words held (course_of plan (held (codes "-")))
+  goes : (plan : Plan) → IsPlan words held plan → IsCourse words held (course_of plan held)

@@ -1,14 +1,13 @@
 -- Room for one row.
 use Rattle.std.specs.Prelude.{◌≤◌, ◌+◌, length}
-use Rattle.rb_tree.specs.Columns.{column_count}
-use Rattle.rb_tree.specs.Robot.{Tree}
-use Rattle.rbd.specs.Answer.{line_room}
-use Rattle.rb_tree.specs.State.{Fits}
 use Rattle.rb_tree.specs.Places.{IsFor}
+use Rattle.rb_run.specs.declared.job.Job.{Job}
+use Rattle.rb_run.specs.Line.{line_room}
+use Rattle.rb_run.specs.Slots.{IsSlotOf}
 use Rattle.rbd.specs.declared.desk.Desk.{Desk}
 
--- the state and the work are those of the robot, and the line has room for the longest line
-pub record IsDeskOf (tree : Tree) (desk : Desk) : Type 0 where
-  pub fits : Fits tree desk.state
-  pub work : IsFor tree desk.work
-  pub room : line_room (column_count tree.bodies) ≤ desk.line.spare + length desk.line.bytes
+-- the slot is one of the job, the work is for its robot, and there is room for the longest line
+pub record IsDeskOf (job : Job) (desk : Desk) : Type 0 where
+  pub slot : IsSlotOf job desk.slot
+  pub work : IsFor job.robot desk.work
+  pub room : line_room job ≤ desk.line.spare + length desk.line.bytes

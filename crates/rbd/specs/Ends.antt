@@ -10,6 +10,8 @@ use Rattle.rbd.specs.declared.stop.Stop.{Stop}
 use Rattle.rbd.specs.declared.stop.Stop.TheVariants.{Usage, Robot, Rows, Input, Output, Memory}
 use Rattle.rbd.specs.declared.status.Status.{Status}
 use Rattle.rbd.specs.declared.status.Status.TheVariants as status
+use Rattle.rb_words.specs.Words.{fault_word as words_word}
+use Rattle.rb_rows.specs.Faults.{header_text}
 use Rattle.rb_tags.specs.Faults as Tags
 use Rattle.rb_urdf.specs.Faults as Urdf
 use Rattle.rb_srdf.specs.Faults as Srdf
@@ -33,10 +35,9 @@ status_of (Ok false) = status.Done
 status_of (Err stop) = status_of_stop stop
 
 -- ---- the line
-abbrev pub usage_text : UsageFault → List ℕ
-usage_text usage.Words = codes "usage: words"
-usage_text usage.Root = codes "usage: root"
-usage_text usage.State = codes "usage: state"
+abbrev pub usage_word : UsageFault → List ℕ
+usage_word (usage.Words fault) = words_word fault
+usage_word usage.State = codes "state"
 
 -- what is wrong in a file of the robot
 unfoldable pub in_file : WhichFile → List ℕ → List ℕ
@@ -48,15 +49,14 @@ robot_text (robot.Tags file fault) = in_file file (Tags.fault_text fault)
 robot_text (robot.Urdf fault) = in_file file.Urdf (Urdf.fault_text fault)
 robot_text (robot.Srdf fault) = in_file file.Srdf (Srdf.fault_text fault)
 robot_text (robot.Tree fault) = Tree.fault_text fault
-robot_text (robot.Name place) = in_file file.Urdf (codes "Unbuilt" ++ codes " at " ++ decimal place)
 
 abbrev pub rows_text : RowsFault → List ℕ
 rows_text rows.TooLong = codes "rows: TooLong"
-rows_text rows.BadHeader = codes "rows: BadHeader at field 0"
+rows_text (rows.Header fault) = codes "rows: " ++ header_text fault
 rows_text (rows.LineTooLong row) = codes "rows: LineTooLong at row " ++ decimal row
 
 abbrev pub stop_text : Stop → List ℕ
-stop_text (Usage fault) = usage_text fault
+stop_text (Usage fault) = codes "usage: " ++ usage_word fault
 stop_text (Robot fault) = robot_text fault
 stop_text (Rows fault) = rows_text fault
 stop_text Input = codes "input failed"

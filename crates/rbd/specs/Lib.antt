@@ -1,13 +1,8 @@
 -- Read `Headline` first, what the lines of a run mean, and `Run`, how a run ends. `Course` is what a run answers and puts: it goes by its `Plan`,
--- the robot that its `Words` name, and the rows give the `Inputs`, of the steps in `Cut`, `Columns` and `Fields`, to which it `Answer`s line by line.
--- `Ends` has the status and the line on standard error, `Codes` the exit status.
-pub mod Words
+-- what the words ask for and the robot that they name, and the rows give the `Inputs`. `Ends` has the status and the line on standard error, `Codes`
+-- the exit status. `Stops` and `Desk` are scaffolding: the stops of parts of a run, and the room for one row.
 pub mod Plan
-pub mod Cut
-pub mod Columns
-pub mod Fields
 pub mod Inputs
-pub mod Answer
 pub mod Stops
 pub mod Desk
 pub mod Course

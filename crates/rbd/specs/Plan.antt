@@ -1,33 +1,35 @@
 -- What a run goes by, from its words and from what the names hold; or the first thing for which it has none.
-use Rattle.std.specs.Prelude.{◌≡◌, ◌⊎◌, ℕ, ◌==◌, List, Bool, ◌&&◌, ◌||◌, not, nat_lt, nat_le, min, if◌then◌else◌, length, find, Option, Some, None, Result, Ok, Err}
+use Rattle.std.specs.Prelude.{◌≡◌, ◌⊎◌, ℕ, List, Bool, nat_lt, if◌then◌else◌, length, Option, Some, None, Result, Ok, Err}
 use Rattle.std.specs.Option.{option_map}
-use Rattle.std.specs.List.{list_all}
+use Rattle.rb_frac.specs.Ops.{V3}
+use Rattle.rb_num.specs.Interval.{Interval}
 use Rattle.rb_result.specs.Steps.{◌>>=◌, told_as}
 use Rattle.rb_tags.specs.declared.tag.Tag.{Tag}
 use Rattle.rb_tags.specs.Tags.{tags_of}
 use Rattle.rb_tags.specs.declared.root.RootKind.{RootKind}
 use Rattle.rb_urdf.specs.Robot.{Robot}
 use Rattle.rb_urdf.specs.Urdf.{urdf_of}
-use Rattle.rb_urdf.specs.declared.robot.UrdfLink.{UrdfLink}
-use Rattle.rb_urdf.specs.declared.robot.UrdfJoint.{UrdfJoint}
 use Rattle.rb_srdf.specs.Srdf.{Semantics}
 use Rattle.rb_srdf.specs.Groups.{HoldsItself}
 use Rattle.rb_srdf.specs.Read.{semantics_of}
 use Rattle.rb_srdf.specs.Read as Srdf
 use Rattle.rb_tree.specs.Robot.{Tree, AreBodies}
-use Rattle.rb_tree.specs.State.{Row, neutral_under, standard_gravity}
+use Rattle.rb_tree.specs.State.{Row, neutral_under}
 use Rattle.rb_tree.specs.States.{HasState, IsPositionWith, entries_named}
 use Rattle.rb_tree.specs.declared.faults.WhichFile.{WhichFile}
 use Rattle.rb_tree.specs.declared.faults.WhichFile.TheVariants as file
 use Rattle.rb_tree.specs.Build.{Source, IsBuilt}
 use Rattle.rb_tree.specs.Refusals.{HasFault}
+use Rattle.rb_rows.specs.declared.task.Task.{Task}
+use Rattle.rb_run.specs.declared.job.Job.{Job}
+use Rattle.rb_words.specs.declared.order.Order.{Order}
+use Rattle.rb_words.specs.Words.{Asked, command_of}
 use Rattle.rbd.specs.declared.stop.RobotFault.{RobotFault}
 use Rattle.rbd.specs.declared.stop.RobotFault.TheVariants as why
 use Rattle.rbd.specs.declared.stop.UsageFault.{UsageFault}
-use Rattle.rbd.specs.declared.stop.UsageFault.TheVariants.{State}
+use Rattle.rbd.specs.declared.stop.UsageFault.TheVariants.{State, Words}
 use Rattle.rbd.specs.declared.stop.Stop.{Stop}
 use Rattle.rbd.specs.declared.stop.Stop.TheVariants.{Usage, Robot as AtRobot, Rows, Input, Output, Memory}
-use Rattle.rbd.specs.Words.{Command, command_of}
 
 -- the most bytes of a robot's file
 abbrev pub most_file : ℕ
@@ -42,8 +44,8 @@ pub record Files : Type 0 where
 abbrev pub files : (List ℕ → List ℕ) → List ℕ → Option (List ℕ) → Files
 files held urdf srdf = record { urdf = held urdf; srdf = option_map held srdf }
 
-abbrev pub files_of : Command → (List ℕ → List ℕ) → Files
-files_of command held = files held command.file command.srdf
+abbrev pub files_of : Asked → (List ℕ → List ℕ) → Files
+files_of command held = files held command.urdf command.srdf
 
 -- the tags of a file, or the first fault on the way to them
 unfoldable pub tags_in : WhichFile → List ℕ → Result (List Tag) RobotFault
@@ -87,48 +89,16 @@ pub record IsSource (root : Option RootKind) (files : Files) (source : Source) :
   pub srdf : IsSemanticsIn files.srdf source.srdf
   pub root_is : source.root ≡ root
 
--- letters, digits and _
-abbrev pub is_plain_byte : ℕ → Bool
-is_plain_byte byte =
-    (nat_le 97 byte && nat_le byte 122) || (nat_le 65 byte && nat_le byte 90) || (nat_le 48 byte && nat_le byte 57) || (byte == 95)
-
-abbrev pub is_plain : List ℕ → Bool
-is_plain name = list_all is_plain_byte name
-
-abbrev pub odd_link : UrdfLink → Bool
-odd_link link = not (is_plain link.name)
-
-abbrev pub odd_joint : UrdfJoint → Bool
-odd_joint joint = not (is_plain joint.name)
-
--- the one that comes first in the file
-abbrev pub earlier : Option ℕ → Option ℕ → Option ℕ
-earlier None second = second
-earlier first None = first
-earlier (Some first) (Some second) = Some (min first second)
-
--- the place of the first link or joint whose name has another byte
-unfoldable pub odd_name : Robot → Option ℕ
-odd_name robot =
-    earlier (option_map (λ link. link.place) (find odd_link robot.links)) (option_map (λ joint. joint.place) (find odd_joint robot.joints))
-
 -- the robot of the files with this kind of root is this tree
 pub record IsRobotOf (root : Option RootKind) (files : Files) (tree : Tree) : Type 0 where
   pub source : Source
   pub read : IsSource root files source
   pub built : IsBuilt source tree
   pub kept : AreBodies tree.bodies
-  pub plain : odd_name source.urdf ≡ None
 
--- what the files tell is no tree, or a name in it is not plain
-pub record IsOdd (source : Source) (place : ℕ) : Type 0 where
-  pub tree : Tree
-  pub built : IsBuilt source tree
-  pub first : odd_name source.urdf ≡ Some place
-
+-- what the files tell is no tree
 abbrev pub IsUnfit : Source → RobotFault → Type 0
 IsUnfit source (why.Tree fault) = HasFault source fault
-IsUnfit source (why.Name place) = IsOdd source place
 IsUnfit source fault = ⊥
 
 -- the file of groups and states is refused, and that of links and joints is not
@@ -137,7 +107,7 @@ pub record IsNoSemantics (files : Files) (fault : RobotFault) : Type 0 where
   pub read : urdf_in files.urdf ≡ Ok urdf
   pub refused : HasNoSemantics files.srdf fault
 
--- the files are those of a robot, which is no tree of plain names
+-- the files are those of a robot, which is no tree
 pub record IsNoTree (root : Option RootKind) (files : Files) (fault : RobotFault) : Type 0 where
   pub source : Source
   pub read : IsSource root files source
@@ -149,40 +119,52 @@ IsRefused root files fault = (urdf_in files.urdf ≡ Err fault) ⊎ (IsNoSemanti
 
 -- ---- the state that rows start from
 -- some group state has the name, and the position is the neutral one with what all states of the name set
-pub record IsNamed (tree : Tree) (name : List ℕ) (start : Row) : Type 0 where
+pub record IsNamed (tree : Tree) (gravity : V3 Interval) (name : List ℕ) (start : Row) : Type 0 where
   pub known : HasState tree.states name
-  pub position : IsPositionWith (entries_named tree.states name) (neutral_under standard_gravity tree).q start.q
-  pub rest : start ≡ record (neutral_under standard_gravity tree) { q = start.q }
+  pub position : IsPositionWith (entries_named tree.states name) (neutral_under gravity tree).q start.q
+  pub rest : start ≡ record (neutral_under gravity tree) { q = start.q }
 
--- the neutral state, or the one of the name that is told
-abbrev pub IsStart : Tree → Option (List ℕ) → Row → Type 0
-IsStart tree None start = start ≡ neutral_under standard_gravity tree
-IsStart tree (Some name) start = IsNamed tree name start
+-- under this gravity the neutral state, or the one of the name that is told
+abbrev pub IsStart : Tree → V3 Interval → Option (List ℕ) → Row → Type 0
+IsStart tree gravity None start = start ≡ neutral_under gravity tree
+IsStart tree gravity (Some name) start = IsNamed tree gravity name start
 
 -- ---- the plan
+-- what is asked for, of which robot, from which state, from the rows of which name, and whether the numbers of each row are told with its answer
 pub record Plan : Type 0 where
+  pub order : Order
   pub tree : Tree
   pub start : Row
+  pub rows : List ℕ
+  pub echo : Bool
 
-abbrev pub plan : Tree → Row → Plan
-plan tree start = record { tree = tree; start = start }
+abbrev pub plan : Order → Tree → Row → List ℕ → Bool → Plan
+plan order tree start rows echo = record { order = order; tree = tree; start = start; rows = rows; echo = echo }
+
+abbrev pub plan_of : Asked → Tree → Row → Plan
+plan_of command tree start = plan command.order tree start command.rows command.echo
+
+-- what is asked of each row
+abbrev pub job_of : Plan → Task → Job
+job_of plan task = record { robot = plan.tree; task = task; echo = plan.echo }
 
 -- the words name files, and the plan's robot and state are theirs
 pub record IsPlan (words : List (List ℕ)) (held : List ℕ → List ℕ) (plan : Plan) : Type 0 where
-  pub command : Command
+  pub command : Asked
   pub told : command_of words ≡ Ok command
   pub robot : IsRobotOf command.root (files_of command held) plan.tree
-  pub start : IsStart plan.tree command.state plan.start
+  pub start : IsStart plan.tree command.gravity command.state plan.start
+  pub asked : plan ≡ plan_of command plan.tree plan.start
 
 -- the words name files, which have this fault
 pub record HasNoRobot (words : List (List ℕ)) (held : List ℕ → List ℕ) (fault : RobotFault) : Type 0 where
-  pub command : Command
+  pub command : Asked
   pub told : command_of words ≡ Ok command
   pub refused : IsRefused command.root (files_of command held) fault
 
 -- the words name a state that the robot of the files has not
 pub record HasNoState (words : List (List ℕ)) (held : List ℕ → List ℕ) : Type 0 where
-  pub command : Command
+  pub command : Asked
   pub told : command_of words ≡ Ok command
   pub tree : Tree
   pub robot : IsRobotOf command.root (files_of command held) tree
@@ -192,7 +174,7 @@ pub record HasNoState (words : List (List ℕ)) (held : List ℕ → List ℕ) :
 
 abbrev pub IsMisused : List (List ℕ) → (List ℕ → List ℕ) → UsageFault → Type 0
 IsMisused words held State = HasNoState words held
-IsMisused words held fault = command_of words ≡ Err fault
+IsMisused words held (Words fault) = command_of words ≡ Err fault
 
 -- the first thing for which there is no plan
 abbrev pub HasNoPlan : List (List ℕ) → (List ℕ → List ℕ) → Stop → Type 0

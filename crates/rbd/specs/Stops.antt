@@ -12,6 +12,11 @@ use Rattle.rb_tree.specs.declared.faults.WhichFile.{WhichFile}
 use Rattle.rb_tree.specs.declared.faults.TreeFault.{TreeFault}
 use Rattle.rb_tree.specs.declared.faults.TreeKind.{TreeKind}
 use Rattle.rb_tree.specs.declared.faults.TreeKind.TheVariants as tree
+use Rattle.rb_rows.specs.declared.faults.HeaderFault.{HeaderFault}
+use Rattle.rb_rows.specs.declared.faults.HeaderKind.{HeaderKind}
+use Rattle.rb_rows.specs.declared.faults.HeaderKind.TheVariants as header
+use Rattle.rb_words.specs.declared.faults.WordsStop.{WordsStop}
+use Rattle.rb_words.specs.declared.faults.WordsStop.TheVariants as words
 use Rattle.rb_io.specs.declared.calls.FileFault.{FileFault}
 use Rattle.rb_io.specs.declared.calls.FileFault.TheVariants as file
 use Rattle.rbd.specs.declared.stop.RobotFault.{RobotFault}
@@ -24,7 +29,9 @@ use Rattle.rbd.specs.declared.stop.RowsStop.{RowsStop}
 use Rattle.rbd.specs.declared.stop.RowsStop.TheVariants as rows
 use Rattle.rbd.specs.declared.stop.StartStop.{StartStop}
 use Rattle.rbd.specs.declared.stop.StartStop.TheVariants as start
-use Rattle.rbd.specs.declared.stop.UsageFault.TheVariants.{State}
+use Rattle.rbd.specs.declared.stop.UsageFault.TheVariants.{State, Words}
+use Rattle.rbd.specs.declared.stop.RowsFault.{RowsFault}
+use Rattle.rbd.specs.declared.stop.RowsFault.TheVariants as RowsFault
 use Rattle.rbd.specs.declared.stop.Stop.{Stop}
 use Rattle.rbd.specs.declared.stop.Stop.TheVariants.{Usage, Rows, Input, Output, Memory}
 
@@ -67,6 +74,19 @@ tree_kind kind fault = refusal.Fault fault
 
 abbrev pub refusal_of_tree : TreeFault → Refusal RobotFault
 refusal_of_tree fault = tree_kind fault.kind (robot.Tree fault)
+
+abbrev pub header_kind : HeaderKind → RowsFault → RowsStop
+header_kind header.Memory fault = rows.Memory
+header_kind kind fault = rows.Fault fault
+
+-- of reading a header
+abbrev pub stop_of_header : HeaderFault → RowsStop
+stop_of_header fault = header_kind fault.kind (RowsFault.Header fault)
+
+-- of reading words
+abbrev pub stop_of_words : WordsStop → Stop
+stop_of_words (words.Fault fault) = Usage (Words fault)
+stop_of_words words.Memory = Memory
 
 abbrev pub stop_of_refusal : {F : Type 0} → Refusal F → ReadStop F
 stop_of_refusal (refusal.Fault fault) = read.Fault fault

@@ -1,27 +1,26 @@
 //! The buffers in which rows are answered, one after the other.
-ghost use Rattle.std.specs.Prelude.{◌≡◌, ◌≤◌, ◌+◌, length, OnOk, IfOk, IfErr, Ok, Err};
-ghost use Rattle.rb_tree.specs.Columns.{column_count};
-ghost use Rattle.rbd.specs.Answer.{answer_to, is_refused, line_of};
-ghost use Rattle.rbd.specs.Desk.{IsDeskOf};
-ghost use Rattle.rbd.specs.Fields.{row_of, IsWithin};
+ghost use Rattle.std.specs.Prelude.{◌≡◌, ◌≤◌, length, OnOk, IfOk};
+ghost use Rattle.rb_io.specs.declared.lines.TheConstants.{MOST_LINE};
 ghost use Rattle.rb_tree.specs.Places.{IsFor};
 ghost use Rattle.rb_tree.specs.State.{Fits};
-ghost use Rattle.rb_rnea.specs.Dynamics.{torques_in};
+ghost use Rattle.rb_rows.specs.declared.task.Task.TheVariants.{Rnea};
+ghost use Rattle.rb_rows.specs.Header.{HasPlaces};
+ghost use Rattle.rb_rows.specs.Row.{row_of};
+ghost use Rattle.rb_run.specs.Answers.{Holds, slot_of, is_refused};
+ghost use Rattle.rb_run.specs.Line.{line_of};
+ghost use Rattle.rbd.specs.Desk.{IsDeskOf};
 
-use crate::cause::Cause;
-use crate::fields::read_row;
-use crate::header::Header;
-use crate::line::{put_answered, put_refused};
-use rb_rnea::rnea;
+use rb_rows::{Header, LineFault, read_row};
+use rb_run::{Job, Slot, SlotInput, answer_slot, line_room, put_line};
 use rb_text::Out;
 use rb_tree::{Robot, State};
 use rb_work::Work;
 use std::alloc::{AllocError, Global};
 
-/// Room for the state, the quantities and the line of one row of a robot.
+/// Room for one row of a job, for the quantities of its robot, and for a line.
 #[derive(Drop)]
 pub(crate) struct Desk {
-    pub(crate) state: State,
+    pub(crate) slot: Slot,
     pub(crate) work: Work,
     pub(crate) line: Out,
 }
@@ -34,70 +33,67 @@ fn work_for(alloc: Global, robot: &Robot) -> Result<Work, AllocError>
 }
 
 impl Desk {
-    /// A desk for the rows of a robot. Its one refusal is for want of memory; nothing later takes any.
-    pub(crate) fn new(alloc: Global, robot: &Robot) -> Result<Desk, AllocError>
-        ensures { IfOk result (IsDeskOf robot.now) }
+    /// A desk for the rows of a job. Its one refusal is for want of memory; only the reading of a row takes any later.
+    pub(crate) fn new(alloc: Global, job: &Job) -> Result<Desk, AllocError>
+        ensures { IfOk result (IsDeskOf job.now) }
     {
-        let state = State::new(alloc, robot)?;
-        let work = work_for(alloc, robot)?;
-        let line = Out::with_room(alloc, 81 * robot.nv() as usize + 200)?;
-        Ok(Desk { state, work, line })
+        let slot = Slot::new(alloc, job)?;
+        let work = work_for(alloc, &job.robot)?;
+        let line = Out::with_room(alloc, line_room(job))?;
+        Ok(Desk { slot, work, line })
     }
 
-    /// Answers a row: its torques are then in the work.
-    fn answer(
+    /// Takes in the row of this number. Its one refusal is for want of memory.
+    fn take(
         &mut self,
-        robot: &Robot,
+        alloc: Global,
+        job: &Job,
         start: &State,
-        header: Header,
-        row: &[u8],
-    ) -> Result<(), Cause>
-        requires desk { IsDeskOf robot.now self.old }
-        requires start { Fits robot.now start.now }
-        requires within { IsWithin robot.now header }
-        requires short { length row.now ≤ 65536 }
-        ensures ok { OnOk result (answer_to robot.now (row_of start.now header row.now) ≡ Ok (torques_in robot.now self.new.work)) }
-        ensures err { IfErr result (λ cause. answer_to robot.now (row_of start.now header row.now) ≡ Err cause) }
-        ensures desk { IsDeskOf robot.now self.new }
-    {
-        if let Err(fault) = read_row(robot, start, header, row, &mut self.state) {
-            return Err(Cause::Field(fault));
-        }
-        match rnea(robot, &self.state, &mut self.work) {
-            Ok(()) => Ok(()),
-            Err(fault) => Err(Cause::Refused(fault)),
-        }
-    }
-
-    /// Makes the line of a row, and tells whether the row is refused.
-    pub(crate) fn make_line(
-        &mut self,
-        robot: &Robot,
-        start: &State,
-        header: Header,
+        header: &Header,
         number: u64,
         row: &[u8],
-    ) -> bool
-        requires desk { IsDeskOf robot.now self.old }
-        requires start { Fits robot.now start.now }
-        requires within { IsWithin robot.now header }
-        requires short { length row.now ≤ 65536 }
-        ensures bytes { self.new.line.bytes ≡ line_of number (column_count robot.now.bodies) (answer_to robot.now (row_of start.now header row.now)) }
-        ensures refused { result ≡ is_refused (answer_to robot.now (row_of start.now header row.now)) }
-        ensures desk { IsDeskOf robot.now self.new }
+    ) -> Result<(), AllocError>
+        requires desk { IsDeskOf job.now self.old }
+        requires start { Fits job.now.robot start.now }
+        requires places { HasPlaces header.now start.now }
+        requires short { length row.now ≤ MOST_LINE }
+        ensures told { OnOk result (Holds self.new.slot number (row_of header.now row.now start.now)) }
+        ensures desk { IsDeskOf job.now self.new }
     {
-        let answer = self.answer(robot, start, header, row);
+        self.slot.row = number;
+        self.slot.state.set_to(start);
+        self.slot.input = match read_row(alloc, header, row, &mut self.slot.state) {
+            Ok(()) => SlotInput::Row,
+            Err(LineFault::Field(fault)) => SlotInput::Bad(fault),
+            Err(LineFault::Memory) => return Err(AllocError),
+        };
+        Ok(())
+    }
+
+    /// Makes the line of the row of this number, and tells whether the row is refused. Its one refusal is for want of memory.
+    pub(crate) fn make_line(
+        &mut self,
+        alloc: Global,
+        job: &Job,
+        start: &State,
+        header: &Header,
+        number: u64,
+        row: &[u8],
+    ) -> Result<bool, AllocError>
+        requires task { job.now.task ≡ Rnea }
+        requires desk { IsDeskOf job.now self.old }
+        requires start { Fits job.now.robot start.now }
+        requires places { HasPlaces header.now start.now }
+        requires short { length row.now ≤ MOST_LINE }
+        ensures bytes { OnOk result (self.new.line.bytes ≡ line_of job.now.echo (slot_of job.now number (row_of header.now row.now start.now))) }
+        ensures refused { IfOk result (λ refused. refused ≡ is_refused (slot_of job.now number (row_of header.now row.now start.now))) }
+        ensures desk { IsDeskOf job.now self.new }
+    {
+        self.take(alloc, job, start, header, number, row)?;
+        answer_slot(job, &mut self.slot, &mut self.work);
         self.line.clear();
-        match answer {
-            Ok(()) => {
-                put_answered(robot, number, &self.work, &mut self.line);
-                false
-            }
-            Err(cause) => {
-                put_refused(robot, number, cause, &mut self.line);
-                true
-            }
-        }
+        put_line(job, &self.slot, &mut self.line);
+        Ok(self.slot.is_refused())
     }
 
     /// The line that was made last.

@@ -1,11 +1,13 @@
 //! The status and the line on standard error of an answer.
-ghost use Rattle.std.specs.Prelude.{◌≡◌, ◌≤◌, ◌+◌, ◌++◌, ◌∷◌, [], length, codes, decimal, Result, Ok, Err};
+ghost use Rattle.std.specs.Prelude.{◌≡◌, ◌≤◌, ◌+◌, ◌++◌, length, codes, decimal, Result, Ok, Err};
+ghost use Rattle.rb_rows.specs.Faults.{header_text};
 ghost use Rattle.rb_tree.specs.Faults.{fault_text as tree_text};
-ghost use Rattle.rbd.specs.Ends.{status_of, usage_text, in_file, robot_text, rows_text, stop_text, text_of};
+ghost use Rattle.rbd.specs.Ends.{status_of, usage_word, in_file, robot_text, rows_text, stop_text, text_of};
 
-use crate::line::put_number;
 use crate::status::Status;
 use crate::stop::{RobotFault, RowsFault, Stop, UsageFault};
+use rb_rows::HeaderFault;
+use rb_run::put_number;
 use rb_text::Out;
 use rb_tree::{TreeFault, WhichFile};
 
@@ -34,14 +36,23 @@ pub(crate) fn no_memory() -> &'static [u8]
 }
 
 fn usage_word(fault: UsageFault) -> &'static [u8]
-    ensures word { result.now ≡ usage_text fault }
-    ensures short { length result.now ≤ 12 }
+    ensures word { result.now ≡ usage_word fault }
+    ensures short { length result.now ≤ 7 }
 {
     match fault {
-        UsageFault::Words => b"usage: words",
-        UsageFault::Root => b"usage: root",
-        UsageFault::State => b"usage: state",
+        UsageFault::Words(fault) => fault.word().as_bytes(),
+        UsageFault::State => b"state",
     }
+}
+
+#[tactic(auto, using(std::proofs::Common::append_assoc))]
+fn put_usage_fault(fault: UsageFault, line: &mut Out)
+    requires { 60 ≤ line.old.spare }
+    ensures bytes { line.new.bytes ≡ line.old.bytes ++ (codes "usage: " ++ usage_word fault) }
+    ensures spare { line.old.spare ≤ line.new.spare + 60 }
+{
+    line.put(b"usage: ");
+    line.put(usage_word(fault));
 }
 
 // Puts a word and a place of a file of the robot.
@@ -110,7 +121,6 @@ fn put_robot_fault(fault: &RobotFault, line: &mut Out)
             line,
         ),
         RobotFault::Tree(fault) => put_tree_fault(*fault, line),
-        RobotFault::Name(place) => put_placed(WhichFile::Urdf, b"Unbuilt", *place, line),
     }
 }
 
@@ -124,6 +134,18 @@ fn put_long_line(row: u64, line: &mut Out)
     put_number(row, line);
 }
 
+#[tactic(auto, using(std::proofs::Common::append_assoc))]
+fn put_header_fault(fault: HeaderFault, line: &mut Out)
+    requires { 60 ≤ line.old.spare }
+    ensures bytes { line.new.bytes ≡ line.old.bytes ++ (codes "rows: " ++ header_text fault) }
+    ensures spare { line.old.spare ≤ line.new.spare + 60 }
+{
+    line.put(b"rows: ");
+    line.put(fault.kind.word().as_bytes());
+    line.put(b" at field ");
+    put_number(u64::from(fault.field), line);
+}
+
 fn put_rows_fault(fault: &RowsFault, line: &mut Out)
     requires { 60 ≤ line.old.spare }
     ensures bytes { line.new.bytes ≡ line.old.bytes ++ rows_text fault.now }
@@ -131,7 +153,7 @@ fn put_rows_fault(fault: &RowsFault, line: &mut Out)
 {
     match fault {
         RowsFault::TooLong => line.put(b"rows: TooLong"),
-        RowsFault::BadHeader => line.put(b"rows: BadHeader at field 0"),
+        RowsFault::Header(fault) => put_header_fault(*fault, line),
         RowsFault::LineTooLong(row) => put_long_line(*row, line),
     }
 }
@@ -142,7 +164,7 @@ fn put_stop(stop: &Stop, line: &mut Out)
     ensures spare { line.old.spare ≤ line.new.spare + 60 }
 {
     match stop {
-        Stop::Usage(fault) => line.put(usage_word(*fault)),
+        Stop::Usage(fault) => put_usage_fault(*fault, line),
         Stop::Robot(fault) => put_robot_fault(fault, line),
         Stop::Rows(fault) => put_rows_fault(fault, line),
         Stop::Input => line.put(b"input failed"),

@@ -1,15 +1,9 @@
 //! Rigid body dynamics in certified intervals.
 #![tactic(auto)]
 
-mod cause;
-mod columns;
 mod desk;
 mod ends;
-mod field;
-mod fields;
-mod header;
-mod line;
-mod lines;
+mod put;
 mod read;
 mod rows;
 mod run;
@@ -17,7 +11,6 @@ mod status;
 mod stop;
 #[cfg(test)]
 mod tests;
-mod words;
 
 use rb_io::{FileInputs, StdSink};
 use run::run;

@@ -1,5 +1,5 @@
 //! Reading the robot's files and the rows whole.
-ghost use Rattle.std.specs.Prelude.{◌≡◌, ℕ, ◌≤◌, ◌<◌, ◌⊎◌, IsTrue, IsErrOf, OnOk, length, codes, find, option_map, option_copied, Option, Some, None, IfOk, IfErr, Result, Ok, Err};
+ghost use Rattle.std.specs.Prelude.{◌≡◌, ℕ, ◌≤◌, ◌<◌, ◌⊎◌, IsTrue, IsErrOf, length, option_map, option_copied, IfOk, IfErr, Result, Ok, Err};
 ghost use Rattle.std.specs.Str.{IsUtf8};
 ghost use Rattle.std.specs.Option.{IsSomeAnd};
 ghost use Rattle.rb_result.specs.Steps.{told_as};
@@ -10,20 +10,20 @@ ghost use Rattle.rb_srdf.specs.Read.{semantics_of};
 ghost use Rattle.rb_tree.specs.declared.faults.WhichFile.{WhichFile as Which};
 ghost use Rattle.rb_tree.specs.Build.{IsBuilt};
 ghost use Rattle.rb_tree.specs.Robot.{AreBodies};
-ghost use Rattle.rb_tree.specs.State.{Fits};
+ghost use Rattle.rb_tree.specs.State.{Fits, neutral_under};
 ghost use Rattle.rb_tree.specs.States.{HasState};
-ghost use Rattle.rbd.specs.Plan.{is_plain, odd_link, odd_joint, earlier, odd_name, tags_in, urdf_in, files, IsSemanticsIn, HasNoSemantics, IsRefusedBy, IsUnfit, IsRobotOf, IsRefused, IsStart, most_file};
+ghost use Rattle.rbd.specs.Plan.{tags_in, urdf_in, files, IsSemanticsIn, HasNoSemantics, IsRefusedBy, IsUnfit, IsRobotOf, IsRefused, IsStart, most_file};
 ghost use Rattle.rbd.specs.Inputs.{most_rows};
 ghost use Rattle.rbd.specs.Stops.{IfFault, IfRefused, file_stop};
 
 use crate::stop::{ReadStop, Refusal, RobotFault, RowsFault, StartStop, of_tags};
-use crate::words::Command;
 use rb_io::{Bytes, FileFault, Inputs, read_all};
+use rb_spatial::Vec3;
 use rb_srdf::{Srdf, read_srdf};
 use rb_tags::{RootKind, Tags, read_tags};
 use rb_tree::{Robot, State, WhichFile};
-use rb_urdf::{UrdfJoint, UrdfLink, UrdfRobot, read_urdf};
-use std::alloc::Global;
+use rb_urdf::{UrdfRobot, read_urdf};
+use std::alloc::{AllocError, Global};
 
 /// The most bytes of a robot's file.
 pub(crate) const MOST_FILE: u64 = 8_388_608;
@@ -40,56 +40,6 @@ fn file_stop<F: Copy>(fault: FileFault, long: F) -> ReadStop<F>
         FileFault::Failed => ReadStop::Input,
         FileFault::Memory => ReadStop::Memory,
     }
-}
-
-/// Whether a name has no bytes but letters, digits and `_`.
-fn is_plain(name: &[u8]) -> bool
-    ensures { result ≡ is_plain name.now }
-{
-    name.iter()
-        .all(|byte| byte.is_ascii_alphanumeric() || *byte == b'_')
-}
-
-/// The first link whose name has another byte.
-fn odd_link(links: &[UrdfLink]) -> Option<u64>
-    ensures { result ≡ option_map (λ link. link.place) (find odd_link links.now) }
-{
-    let link = links
-        .iter()
-        .find(|link| !is_plain(link.name.as_str().as_bytes()))?;
-    Some(link.place)
-}
-
-/// The first joint whose name has another byte.
-fn odd_joint(joints: &[UrdfJoint]) -> Option<u64>
-    ensures { result ≡ option_map (λ joint. joint.place) (find odd_joint joints.now) }
-{
-    let joint = joints
-        .iter()
-        .find(|joint| !is_plain(joint.name.as_str().as_bytes()))?;
-    Some(joint.place)
-}
-
-/// The lesser of two places, where they are there.
-fn earlier(first: Option<u64>, second: Option<u64>) -> Option<u64>
-    ensures { result ≡ earlier first second }
-{
-    match (first, second) {
-        (Some(first), Some(second)) => Some(first.min(second)),
-        (None, second) => second,
-        (first, None) => first,
-    }
-}
-
-/// The place of the first link or joint whose name has another byte.
-#[tactic(auto, unfolding(crate::specs::Plan::odd_name))]
-fn odd_name(urdf: &UrdfRobot) -> Option<u64>
-    ensures { result ≡ odd_name urdf.now }
-{
-    earlier(
-        odd_link(urdf.links().as_slice()),
-        odd_joint(urdf.joints().as_slice()),
-    )
 }
 
 /// The tags that a file's bytes hold.
@@ -184,17 +134,6 @@ fn read_srdf_of<I: Inputs>(
     Ok(Some(srdf_of_tags(alloc, &tags)?))
 }
 
-/// That the names of all links and joints are plain; else the place of the first that is not.
-fn all_plain(urdf: &UrdfRobot) -> Result<(), RobotFault>
-    ensures ok { OnOk result (odd_name urdf.now ≡ None) }
-    ensures err { IfErr result (λ fault. option_map RobotFault.Name (odd_name urdf.now) ≡ Some fault) }
-{
-    match odd_name(urdf) {
-        None => Ok(()),
-        Some(place) => Err(RobotFault::Name(place)),
-    }
-}
-
 /// The robot of links and joints, with groups, states and virtual joints where they are given, and with this kind of root.
 fn robot_of(
     alloc: Global,
@@ -204,41 +143,57 @@ fn robot_of(
 ) -> Result<Robot, Refusal<RobotFault>>
     ensures ok { IfOk result (IsBuilt (record { urdf = urdf.now; srdf = option_copied srdf.entry; root = root })) }
     ensures kept { IfOk result (λ robot. AreBodies robot.bodies) }
-    ensures plain { OnOk result (odd_name urdf.now ≡ None) }
     ensures err { IfErr result (IfRefused (IsUnfit (record { urdf = urdf.now; srdf = option_copied srdf.entry; root = root }))) }
 {
     let robot = Robot::build(alloc, urdf, srdf, root)?;
     let _bodies = robot.bodies();
-    all_plain(urdf)?;
     Ok(robot)
 }
 
-/// Reads the robot that words name.
+/// Reads the robot of these files.
 pub(crate) fn read_robot<I: Inputs>(
     alloc: Global,
     inputs: &mut I,
-    command: Command<'_>,
+    urdf: &str,
+    srdf: Option<&str>,
+    root: Option<RootKind>,
 ) -> Result<Robot, ReadStop<RobotFault>>
     ensures tells { I.tells inputs.new ≡ I.tells inputs.old }
     ensures holds { I.holds inputs.new ≡ I.holds inputs.old }
-    ensures robot { IsTrue (I.tells inputs.old) → IfOk result (IsRobotOf command.entry.root (files (I.holds inputs.old) command.entry.file.now (option_copied command.entry.srdf))) }
-    ensures refused { IsTrue (I.tells inputs.old) → IfErr result (IfFault (IsRefused command.entry.root (files (I.holds inputs.old) command.entry.file.now (option_copied command.entry.srdf)))) }
+    ensures robot { IsTrue (I.tells inputs.old) → IfOk result (IsRobotOf root (files (I.holds inputs.old) urdf.now (option_copied srdf.entry))) }
+    ensures refused { IsTrue (I.tells inputs.old) → IfErr result (IfFault (IsRefused root (files (I.holds inputs.old) urdf.now (option_copied srdf.entry)))) }
     ensures long { (which : Which) → IsErrOf result (ReadStop.Fault (RobotFault.TooLong which)) → most_file < I.given inputs.new }
     ensures rose { IsErrOf result ReadStop.Input → Rose (I.faults inputs.old) (I.faults inputs.new) }
     ensures kept { ¬ (IsErrOf result ReadStop.Input) → I.faults inputs.new ≡ I.faults inputs.old }
 {
-    let urdf = read_urdf_of(alloc, inputs, command.file)?;
-    let srdf = read_srdf_of(alloc, inputs, command.srdf)?;
-    Ok(robot_of(alloc, &urdf, srdf.as_ref(), command.root)?)
+    let urdf = read_urdf_of(alloc, inputs, urdf)?;
+    let srdf = read_srdf_of(alloc, inputs, srdf)?;
+    Ok(robot_of(alloc, &urdf, srdf.as_ref(), root)?)
 }
 
-/// The state that rows start from: the neutral one, or where a name is told the one of the group states of the name.
-pub(crate) fn start_of(alloc: Global, robot: &Robot, name: Option<&str>) -> Result<State, StartStop>
-    ensures ok { IfOk result (IsStart robot.now (option_copied name.entry)) }
+/// The neutral state under this gravity.
+#[tactic(auto, unfolding(rb_tree::specs::State::neutral_under))]
+fn neutral_start(alloc: Global, robot: &Robot, gravity: &Vec3) -> Result<State, AllocError>
+    ensures exact { IfOk result (λ start. start ≡ neutral_under gravity.now robot.now) }
+    ensures fits { IfOk result (Fits robot.now) }
+{
+    let mut start = State::new(alloc, robot)?;
+    start.set_gravity(*gravity);
+    Ok(start)
+}
+
+/// The state that rows start from: under this gravity the neutral one, or where a name is told the one of the group states of the name.
+pub(crate) fn start_of(
+    alloc: Global,
+    robot: &Robot,
+    gravity: &Vec3,
+    name: Option<&str>,
+) -> Result<State, StartStop>
+    ensures ok { IfOk result (IsStart robot.now gravity.now (option_copied name.entry)) }
     ensures fits { IfOk result (Fits robot.now) }
     ensures err { IfErr result (λ stop. (stop ≡ StartStop.Memory) ⊎ ((stop ≡ StartStop.NoState) × IsSomeAnd (option_copied name.entry) (λ name. HasState robot.now.states name → ⊥))) }
 {
-    let mut start = State::new(alloc, robot)?;
+    let mut start = neutral_start(alloc, robot, gravity)?;
     let Some(name) = name else {
         return Ok(start);
     };
@@ -252,16 +207,17 @@ pub(crate) fn start_of(alloc: Global, robot: &Robot, name: Option<&str>) -> Resu
 pub(crate) fn read_rows<I: Inputs>(
     alloc: Global,
     inputs: &mut I,
+    name: &str,
 ) -> Result<Bytes, ReadStop<RowsFault>>
-    ensures bytes { IsTrue (I.tells inputs.old) → IfOk result (λ bytes. bytes ≡ I.holds inputs.old (codes "-")) }
+    ensures bytes { IsTrue (I.tells inputs.old) → IfOk result (λ bytes. bytes ≡ I.holds inputs.old name.now) }
     ensures within { IfOk result (λ bytes. length bytes ≤ most_rows) }
     ensures refused { IfErr result (IfFault (λ fault. fault ≡ RowsFault.TooLong)) }
-    ensures longer { IsTrue (I.tells inputs.old) → IsErrOf result (ReadStop.Fault RowsFault.TooLong) → most_rows < length (I.holds inputs.old (codes "-")) }
+    ensures longer { IsTrue (I.tells inputs.old) → IsErrOf result (ReadStop.Fault RowsFault.TooLong) → most_rows < length (I.holds inputs.old name.now) }
     ensures long { IsErrOf result (ReadStop.Fault RowsFault.TooLong) → most_rows < I.given inputs.new }
     ensures rose { IsErrOf result ReadStop.Input → Rose (I.faults inputs.old) (I.faults inputs.new) }
     ensures kept { ¬ (IsErrOf result ReadStop.Input) → I.faults inputs.new ≡ I.faults inputs.old }
 {
-    match read_all(alloc, inputs, "-", MOST_ROWS) {
+    match read_all(alloc, inputs, name, MOST_ROWS) {
         Ok(bytes) => Ok(bytes),
         Err(fault) => Err(file_stop(fault, RowsFault::TooLong)),
     }

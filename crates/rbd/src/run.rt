@@ -1,59 +1,160 @@
-//! A run: the words, the robot's files, and the rows.
-ghost use Rattle.std.specs.Prelude.{◌≡◌, ◌⊎◌, ◌++◌, Bool, IsTrue, map, string_bytes, Result};
+//! A run: the words, the robot's files, and what is asked of the robot.
+ghost use Rattle.std.specs.Prelude.{◌≡◌, ◌⊎◌, ◌++◌, [], Bool, IsTrue, IsErrOf, map, string_bytes, Result};
 ghost use Rattle.rb_io.specs.Outside.{Rose};
 ghost use Rattle.rb_io.specs.Calls.{PutsPart};
-ghost use Rattle.rbd.specs.Run.{source, stream, Goes, Ends, IsComplete};
+ghost use Rattle.rb_result.specs.Steps.{told_as};
+ghost use Rattle.rb_model.specs.Model.{model_text};
+ghost use Rattle.rb_rows.specs.Columns.{state_columns};
+ghost use Rattle.rb_rows.specs.Head.{line_of as text_of_names};
+ghost use Rattle.rb_rows.specs.declared.task.Task.TheVariants.{Rnea};
+ghost use Rattle.rb_tree.specs.State.{Fits};
+ghost use Rattle.rb_words.specs.Words.{IsBuilt};
+ghost use Rattle.rbd.specs.Course.{tells as text_course};
+ghost use Rattle.rbd.specs.Plan.{plan};
+ghost use Rattle.rbd.specs.Run.{source, stream, Follows, Obeys, Goes, Ends, IsComplete, IsRest};
+ghost use Rattle.rbd.specs.Stops.{stop_of_rows};
 ghost use Rattle.rbd.specs.Headline.{Headline};
 
 use crate::ends::{no_memory, put_text, status};
+use crate::put::put;
 use crate::read::{read_robot, read_rows, start_of};
 use crate::rows::answer_all;
 use crate::status::Status;
-use crate::stop::{Stop, of_reading, of_robot, of_rows, of_start};
-use crate::words::read_words;
+use crate::stop::{RowsStop, Stop, of_reading, of_robot, of_rows, of_start, of_words};
 use rb_io::{Inputs, Sink, put_all};
+use rb_model::model_text;
 use rb_rnea::laws::answer_law;
+use rb_rows::column_line;
+use rb_run::Job;
 use rb_text::Out;
+use rb_tree::{Robot, State};
+use rb_words::{Command, Order, read_words};
 use std::alloc::Global;
 
-/// The steps of a run, up to the first that stops it. Tells whether a row is refused.
-fn steps<I: Inputs, O: Sink>(
+/// Puts the model of a robot, with the position that rows start from.
+fn put_model<O: Sink>(
     alloc: Global,
-    words: &[String],
+    robot: &Robot,
+    start: &State,
+    out: &mut O,
+) -> Result<bool, RowsStop>
+    requires start { Fits robot.now start.now }
+    ensures tells { IsTrue (O.tells out.new) → IsTrue (O.tells out.old) }
+    ensures follows { Follows (text_course (model_text robot.now start.now.q)) (stream O.tells O.put O.faults out.old out.new) (told_as stop_of_rows result) }
+    ensures rose { IsErrOf result RowsStop.Output → Rose (O.faults out.old) (O.faults out.new) }
+    ensures kept { ¬ (IsErrOf result RowsStop.Output) → O.faults out.new ≡ O.faults out.old }
+{
+    let text = model_text(alloc, robot, start)?;
+    put(text.as_slice(), out)?;
+    Ok(false)
+}
+
+/// Puts the line of the columns of a robot's states.
+fn put_columns<O: Sink>(alloc: Global, robot: &Robot, out: &mut O) -> Result<bool, RowsStop>
+    ensures tells { IsTrue (O.tells out.new) → IsTrue (O.tells out.old) }
+    ensures follows { Follows (text_course (text_of_names (state_columns robot.now))) (stream O.tells O.put O.faults out.old out.new) (told_as stop_of_rows result) }
+    ensures rose { IsErrOf result RowsStop.Output → Rose (O.faults out.old) (O.faults out.new) }
+    ensures kept { ¬ (IsErrOf result RowsStop.Output) → O.faults out.new ≡ O.faults out.old }
+{
+    let line = column_line(alloc, robot)?;
+    put(line.as_str().as_bytes(), out)?;
+    Ok(false)
+}
+
+/// Reads the rows of this name, and answers them. Tells whether a row is refused.
+fn answer_rows<I: Inputs, O: Sink>(
+    alloc: Global,
+    job: &Job,
+    start: &State,
+    name: &str,
     inputs: &mut I,
     out: &mut O,
 ) -> Result<bool, Stop>
+    requires task { job.now.task ≡ Rnea }
+    requires start { Fits job.now.robot start.now }
     ensures tells { IsTrue (O.tells out.new) → IsTrue (O.tells out.old) }
-    ensures goes { Goes (map string_bytes words.now) (source I.tells I.holds I.given I.faults inputs.old inputs.new) (stream O.tells O.put O.faults out.old out.new) result }
+    ensures obeys { Obeys (plan (Order.Rows job.now.task) job.now.robot start.now name.now job.now.echo)
+        (source I.tells I.holds I.given I.faults inputs.old inputs.new) (stream O.tells O.put O.faults out.old out.new) result }
 {
-    let command = match read_words(words) {
-        Ok(command) => command,
-        Err(fault) => return Err(Stop::Usage(fault)),
-    };
-    let robot = match read_robot(alloc, inputs, command) {
-        Ok(robot) => robot,
-        Err(stop) => return Err(of_robot(stop)),
-    };
-    let start = match start_of(alloc, &robot, command.state) {
-        Ok(start) => start,
-        Err(stop) => return Err(of_start(stop)),
-    };
-    let rows = match read_rows(alloc, inputs) {
+    let rows = match read_rows(alloc, inputs, name) {
         Ok(rows) => rows,
         Err(stop) => return Err(of_reading(stop)),
     };
-    match answer_all(alloc, &robot, &start, rows.as_slice(), out) {
+    match answer_all(alloc, job, start, rows.as_slice(), out) {
         Ok(refused) => Ok(refused),
         Err(stop) => Err(of_rows(stop)),
     }
 }
 
-/// Says a line.
-fn say<E: Sink>(line: &[u8], err: &mut E)
-    ensures line { IsTrue (E.tells err.new) → (E.put err.new ≡ E.put err.old ++ line.now) ⊎ Rose (E.faults err.old) (E.faults err.new) }
-    ensures part { IsTrue (E.tells err.new) → PutsPart (E.put err.old) (E.put err.new) line.now }
+/// Does what is asked of a robot. Tells whether a row is refused.
+fn obey<I: Inputs, O: Sink>(
+    alloc: Global,
+    command: &Command<'_>,
+    robot: Robot,
+    start: &State,
+    inputs: &mut I,
+    out: &mut O,
+) -> Result<bool, Stop>
+    requires built { IsBuilt command.now.order }
+    requires start { Fits robot start.now }
+    ensures tells { IsTrue (O.tells out.new) → IsTrue (O.tells out.old) }
+    ensures obeys { Obeys (plan command.now.order robot start.now command.now.rows.now command.now.echo)
+        (source I.tells I.holds I.given I.faults inputs.old inputs.new) (stream O.tells O.put O.faults out.old out.new) result }
+{
+    let done = match command.order {
+        Order::Rows(task) => {
+            let job = Job {
+                robot,
+                task,
+                echo: command.echo,
+            };
+            return answer_rows(alloc, &job, start, command.rows, inputs, out);
+        }
+        Order::Model => put_model(alloc, &robot, start, out),
+        Order::Columns => put_columns(alloc, &robot, out),
+    };
+    match done {
+        Ok(refused) => Ok(refused),
+        Err(stop) => Err(of_rows(stop)),
+    }
+}
+
+/// The steps of a run, up to the first that stops it. Tells whether a row is refused.
+fn steps<I: Inputs, O: Sink>(
+    alloc: Global,
+    words: &[String],
+    told: &mut String,
+    inputs: &mut I,
+    out: &mut O,
+) -> Result<bool, Stop>
+    ensures tells { IsTrue (O.tells out.new) → IsTrue (O.tells out.old) }
+    ensures goes { Goes (map string_bytes words.now) (source I.tells I.holds I.given I.faults inputs.old inputs.new) (stream O.tells O.put O.faults out.old out.new) result }
+    ensures rest { string_bytes told.old ≡ [] → IsRest result (string_bytes told.new) }
+{
+    let command = match read_words(alloc, words, told) {
+        Ok(command) => command,
+        Err(stop) => return Err(of_words(stop)),
+    };
+    let robot = match read_robot(alloc, inputs, command.urdf, command.srdf, command.root) {
+        Ok(robot) => robot,
+        Err(stop) => return Err(of_robot(stop)),
+    };
+    let start = match start_of(alloc, &robot, &command.gravity, command.state) {
+        Ok(start) => start,
+        Err(stop) => return Err(of_start(stop)),
+    };
+    obey(alloc, &command, robot, &start, inputs, out)
+}
+
+/// Says a line, and what comes behind it.
+fn say<E: Sink>(line: &[u8], rest: &[u8], err: &mut E)
+    ensures whole { IsTrue (E.tells err.new) → (E.put err.new ≡ E.put err.old ++ (line.now ++ rest.now)) ⊎ Rose (E.faults err.old) (E.faults err.new) }
+    ensures part { IsTrue (E.tells err.new) → PutsPart (E.put err.old) (E.put err.new) (line.now ++ rest.now) }
 {
     if put_all(err, line).is_err() {
+        return;
+    }
+    if put_all(err, rest).is_err() {
         return;
     }
 }
@@ -79,13 +180,14 @@ pub fn run<I: Inputs, O: Sink, E: Sink>(
     let mut line = match Out::with_room(alloc, 100) {
         Ok(line) => line,
         Err(_) => {
-            say(no_memory(), err);
+            say(no_memory(), b"", err);
             return Status::Memory;
         }
     };
     answer_law();
-    let answer = steps(alloc, words, inputs, out);
+    let mut told = String::new(alloc);
+    let answer = steps(alloc, words, &mut told, inputs, out);
     put_text(&answer, &mut line);
-    say(line.bytes(), err);
+    say(line.bytes(), told.as_bytes(), err);
     status(&answer)
 }

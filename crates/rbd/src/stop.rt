@@ -1,20 +1,20 @@
 //! What ends a run before its last row, by the part of the run that it comes from.
 ghost use Rattle.std.specs.Prelude.{◌≡◌};
-ghost use Rattle.rbd.specs.Stops.{refusal_of_tags, refusal_of_urdf, refusal_of_srdf, refusal_of_tree, stop_of_refusal, stop_of_read, stop_of_rows, stop_of_start};
+ghost use Rattle.rbd.specs.Stops.{refusal_of_tags, refusal_of_urdf, refusal_of_srdf, refusal_of_tree, stop_of_refusal, stop_of_read, stop_of_rows, stop_of_start, stop_of_header, stop_of_words};
 
+use rb_rows::{HeaderFault, HeaderKind};
 use rb_srdf::{SrdfFault, SrdfFaultKind};
 use rb_tags::{TagFault, TagKind};
 use rb_tree::{TreeFault, TreeKind, WhichFile};
 use rb_urdf::{UrdfFault, UrdfFaultKind};
+use rb_words::{WordsFault, WordsStop};
 use std::alloc::AllocError;
 
 /// What is wrong with the words.
 #[derive(Clone, Copy, Debug, PartialEq, Eq)]
 pub enum UsageFault {
-    /// They are not those of the program.
-    Words,
-    /// The kind of the root is none.
-    Root,
+    /// What the words alone show.
+    Words(WordsFault),
     /// No group state has the name.
     State,
 }
@@ -32,8 +32,6 @@ pub enum RobotFault {
     Srdf(SrdfFault),
     /// The robot is no tree.
     Tree(TreeFault),
-    /// The name of a link or a joint has a character other than letters, digits and `_`: the place of the first.
-    Name(u64),
 }
 
 /// What is wrong with the rows.
@@ -41,8 +39,8 @@ pub enum RobotFault {
 pub enum RowsFault {
     /// They pass 2^40 bytes.
     TooLong,
-    /// The header is missing, or is another one.
-    BadHeader,
+    /// The header is missing or wrong.
+    Header(HeaderFault),
     /// A line passes 65,536 bytes: its row, from 1, or 0 for the header.
     LineTooLong(u64),
 }
@@ -135,16 +133,6 @@ impl From<TreeFault> for Refusal<RobotFault> {
     }
 }
 
-impl From<RobotFault> for Refusal<RobotFault> {
-    ghost use Rattle.rbd.specs.declared.stop.Refusal.TheVariants.{Fault};
-
-    ghost from_gives = { λ fault refusal. refusal ≡ Fault fault };
-
-    fn from(fault: RobotFault) -> Self {
-        Refusal::Fault(fault)
-    }
-}
-
 impl From<Refusal<RobotFault>> for ReadStop<RobotFault> {
     ghost from_gives = { λ refusal stop. stop ≡ stop_of_refusal refusal };
 
@@ -183,6 +171,26 @@ impl From<AllocError> for RowsStop {
 
     fn from(_error: AllocError) -> Self {
         RowsStop::Memory
+    }
+}
+
+/// Why the rows end at their header.
+pub(crate) fn of_header(fault: HeaderFault) -> RowsStop
+    ensures { result ≡ stop_of_header fault }
+{
+    match fault.kind {
+        HeaderKind::Memory => RowsStop::Memory,
+        _ => RowsStop::Fault(RowsFault::Header(fault)),
+    }
+}
+
+/// A stop of reading the words, as one of the run.
+pub(crate) fn of_words(stop: WordsStop) -> Stop
+    ensures { result ≡ stop_of_words stop }
+{
+    match stop {
+        WordsStop::Fault(fault) => Stop::Usage(UsageFault::Words(fault)),
+        WordsStop::Memory => Stop::Memory,
     }
 }
 

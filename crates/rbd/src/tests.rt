@@ -25,8 +25,6 @@ const PAIR: &[u8] =
 const POSE: &[u8] =
     br#"<robot name="arm"><group name="all"><joint name="hinge"/></group><group_state name="half" group="all"><joint name="hinge" value="0.5"/></group_state></robot>"#;
 
-const FIRST: &[u8] = b"row,answer,cause,tau.lift\n";
-
 // How a run ended, and what it put.
 #[derive(Drop)]
 struct Ran {
@@ -35,61 +33,55 @@ struct Ran {
     err: MemSink,
 }
 
-fn words_of(alloc: Global, root: &[&str]) -> Result<Vec<String>, AllocError> {
-    let mut words = Vec::new(alloc);
-    for word in ["rbd", "--task", "rnea", "--urdf", "robot.urdf"] {
-        words.push(String::from_str(alloc, word)?)?;
-    }
-    for word in root {
-        words.push(String::from_str(alloc, word)?)?;
-    }
-    Ok(words)
+// What the files hold: the robot, its poses, a table; and the table on standard input.
+#[derive(Clone, Copy)]
+struct Held<'a> {
+    robot: &'a [u8],
+    poses: &'a [u8],
+    rows: &'a [u8],
 }
 
-// Runs over these bytes with these words at the end; the calls of these numbers fail.
+fn words_of(alloc: Global, words: &[&str]) -> Result<Vec<String>, AllocError> {
+    let mut texts = Vec::new(alloc);
+    texts.push(String::from_str(alloc, "rbd")?)?;
+    for word in words {
+        texts.push(String::from_str(alloc, word)?)?;
+    }
+    Ok(texts)
+}
+
+// Runs these words; the calls of these numbers fail.
 fn run_failing(
     alloc: Global,
-    root: &[&str],
-    robot: &[u8],
-    rows: &[u8],
+    words: &[&str],
+    held: Held<'_>,
     reads: &[u64],
     writes: &[u64],
 ) -> Result<Ran, AllocError> {
-    let words = words_of(alloc, root)?;
+    let words = words_of(alloc, words)?;
     let mut inputs = MemInputs::new(alloc, 4096, reads)?;
-    inputs.add("robot.urdf", robot)?;
-    inputs.add("-", rows)?;
-    let mut out = MemSink::new(alloc, 10_000, 100, writes)?;
-    let mut err = MemSink::new(alloc, 100, 7, &[])?;
+    inputs.add("robot.urdf", held.robot)?;
+    inputs.add("robot.srdf", held.poses)?;
+    inputs.add("table.csv", held.rows)?;
+    inputs.add("-", held.rows)?;
+    let mut out = MemSink::new(alloc, 100_000, 100, writes)?;
+    let mut err = MemSink::new(alloc, 10_000, 7, &[])?;
     let status = run(alloc, words.as_slice(), &mut inputs, &mut out, &mut err);
     Ok(Ran { status, out, err })
 }
 
-// Runs over these files with these words at the end.
-fn run_posed(
-    alloc: Global,
-    options: &[&str],
-    robot: &[u8],
-    poses: &[u8],
-    rows: &[u8],
-) -> Result<Ran, AllocError> {
-    let words = words_of(alloc, options)?;
-    let mut inputs = MemInputs::new(alloc, 4096, &[])?;
-    inputs.add("robot.urdf", robot)?;
-    inputs.add("robot.srdf", poses)?;
-    inputs.add("-", rows)?;
-    let mut out = MemSink::new(alloc, 10_000, 100, &[])?;
-    let mut err = MemSink::new(alloc, 100, 7, &[])?;
-    let status = run(alloc, words.as_slice(), &mut inputs, &mut out, &mut err);
-    Ok(Ran { status, out, err })
+fn run_words(alloc: Global, words: &[&str], held: Held<'_>) -> Result<Ran, AllocError> {
+    run_failing(alloc, words, held, &[], &[])
 }
 
+// Inverse dynamics of a robot, without other options.
 fn run_over(alloc: Global, robot: &[u8], rows: &[u8]) -> Result<Ran, AllocError> {
-    run_failing(alloc, &[], robot, rows, &[], &[])
-}
-
-fn run_from(alloc: Global, kind: &str, robot: &[u8], rows: &[u8]) -> Result<Ran, AllocError> {
-    run_failing(alloc, &["--root", kind], robot, rows, &[], &[])
+    let held = Held {
+        robot,
+        poses: b"",
+        rows,
+    };
+    run_words(alloc, &["--task", "rnea", "--urdf", "robot.urdf"], held)
 }
 
 // The robot `lift` with another mass.
@@ -125,208 +117,235 @@ fn tower_of(alloc: Global, sliders: usize) -> Result<Vec<u8>, AllocError> {
     Ok(text)
 }
 
-#[test]
-fn a_row_is_answered(rt: HostRuntime) -> Result<(), Fail> {
-    let ran = run_over(rt.alloc(), LIFT, b"a.lift\n1.5\n")?;
-    assert_eq!(rt; ran.status, Status::Done);
-    assert_eq!(rt;
-        ran.out.bytes(),
-        b"row,answer,cause,tau.lift\n1,ok,,22.620000000000..22.620000000000\n".as_slice()
-    );
-    assert_eq!(rt; ran.err.bytes(), b"".as_slice());
-    Ok(())
-}
-
-#[test]
-fn no_row(rt: HostRuntime) -> Result<(), Fail> {
-    let ran = run_over(rt.alloc(), LIFT, b"a.lift\n")?;
-    assert_eq!(rt; ran.status, Status::Done);
-    assert_eq!(rt; ran.out.bytes(), FIRST);
-    Ok(())
-}
-
-#[test]
-fn no_header(rt: HostRuntime) -> Result<(), Fail> {
-    for rows in [
-        b"".as_slice(),
-        b"\n\r\n".as_slice(),
-        b"v.lift\n0\n".as_slice(),
-    ] {
-        let ran = run_over(rt.alloc(), LIFT, rows)?;
-        assert_eq!(rt; ran.status, Status::Rows);
-        assert_eq!(rt; ran.out.bytes(), b"".as_slice());
-        assert_eq!(rt;
-            ran.err.bytes(),
-            b"rbd: rows: BadHeader at field 0\n".as_slice()
-        );
-    }
-    Ok(())
-}
-
-#[test]
-fn the_thirteenth_digit_counts(rt: HostRuntime) -> Result<(), Fail> {
-    let robot = lift_of(rt.alloc(), b"0.1234567890123")?;
-    let ran = run_over(rt.alloc(), robot.as_slice(), b"a.lift\n1\n")?;
-    assert_eq!(rt; ran.status, Status::Done);
-    assert_eq!(rt;
-        ran.out.bytes(),
-        b"row,answer,cause,tau.lift\n1,ok,,1.334567889219..1.334567889231\n".as_slice()
-    );
-    Ok(())
-}
-
-#[test]
-fn an_arm_turns(rt: HostRuntime) -> Result<(), Fail> {
-    let rows =
-        b"q.hinge,v.hinge,a.hinge,tau.hinge\n0,,,\n0.5,,,\n1.5707963267949,,,\n0.1..0.2,0,0,1\n8,,,\n8.000000000001,,,\n";
-    let ran = run_over(rt.alloc(), ARM, rows)?;
-    assert_eq!(rt; ran.status, Status::Refused);
-    assert_eq!(rt;
-        ran.out.bytes(),
-        b"row,answer,cause,tau.hinge\n1,ok,,0.000000000000..0.000000000000\n2,ok,,4.703164533705..4.703164533716\n3,ok,,9.809999999990..9.810000000000\n4,ok,,0.974463266883..1.958736538447\n5,ok,,9.705604399371..9.705604399382\n6,range,q[2],\n".as_slice()
-    );
-    Ok(())
-}
-
-#[test]
-fn a_wheel_turns(rt: HostRuntime) -> Result<(), Fail> {
-    // a quarter turn, by its cosine and its sine
-    let rows = b"q.hinge.cos,q.hinge.sin,v.hinge,a.hinge,tau.hinge\n0,1,0,0,0\n";
-    let ran = run_over(rt.alloc(), WHEEL, rows)?;
-    assert_eq!(rt; ran.status, Status::Done);
-    assert_eq!(rt;
-        ran.out.bytes(),
-        b"row,answer,cause,tau.hinge\n1,ok,,9.810000000000..9.810000000000\n".as_slice()
-    );
-    Ok(())
-}
-
-#[test]
-fn a_box_floats(rt: HostRuntime) -> Result<(), Fail> {
-    let header =
-        b"a.root_joint.vx,a.root_joint.vy,a.root_joint.vz,a.root_joint.wx,a.root_joint.wy,a.root_joint.wz\n0,0,0,0,0,0\n";
-    let ran = run_from(rt.alloc(), "floating", BOX, header)?;
-    assert_eq!(rt; ran.status, Status::Done);
-    assert_eq!(rt;
-        ran.out.bytes(),
-        b"row,answer,cause,tau.root_joint.vx,tau.root_joint.vy,tau.root_joint.vz,tau.root_joint.wx,tau.root_joint.wy,tau.root_joint.wz\n1,ok,,0.000000000000..0.000000000000,0.000000000000..0.000000000000,9.810000000000..9.810000000000,0.000000000000..0.000000000000,0.000000000000..0.000000000000,0.000000000000..0.000000000000\n".as_slice()
-    );
-    Ok(())
-}
-
-#[test]
-fn a_box_slides(rt: HostRuntime) -> Result<(), Fail> {
-    let rows = b"a.root_joint.vx,a.root_joint.vy,a.root_joint.wz\n1,0,2\n";
-    let ran = run_from(rt.alloc(), "planar", BOX, rows)?;
-    assert_eq!(rt; ran.status, Status::Done);
-    assert_eq!(rt;
-        ran.out.bytes(),
-        b"row,answer,cause,tau.root_joint.vx,tau.root_joint.vy,tau.root_joint.wz\n1,ok,,1.000000000000..1.000000000000,0.000000000000..0.000000000000,2.000000000000..2.000000000000\n".as_slice()
-    );
-    Ok(())
-}
-
-#[test]
-fn a_zero_quaternion_is_refused(rt: HostRuntime) -> Result<(), Fail> {
-    let mut rows = Vec::from_slice(
-        rt.alloc(),
-        b"q.root_joint.x,q.root_joint.y,q.root_joint.z,q.root_joint.qx,q.root_joint.qy,q.root_joint.qz,q.root_joint.qw",
-    )?;
-    for prefix in [
-        b",v.root_joint.".as_slice(),
-        b",a.root_joint.",
-        b",tau.root_joint.",
-    ] {
-        for suffix in [b"vx", b"vy", b"vz", b"wx", b"wy", b"wz"] {
-            rows.extend_from_slice(prefix)?;
-            rows.extend_from_slice(suffix)?;
-        }
-    }
-    rows.extend_from_slice(b"\n,,,0,0,0,0,,,,,,,,,,,,,,,,,,\n,,,0,0,0,1,,,,,,,,,,,,,,,,,,\n")?;
-    let ran = run_from(rt.alloc(), "floating", BOX, rows.as_slice())?;
-    assert_eq!(rt; ran.status, Status::Refused);
-    assert_eq!(rt;
-        ran.out.bytes(),
-        b"row,answer,cause,tau.root_joint.vx,tau.root_joint.vy,tau.root_joint.vz,tau.root_joint.wx,tau.root_joint.wy,tau.root_joint.wz\n1,notunit,q[1],,,,,,\n2,ok,,0.000000000000..0.000000000000,0.000000000000..0.000000000000,9.810000000000..9.810000000000,0.000000000000..0.000000000000,0.000000000000..0.000000000000,0.000000000000..0.000000000000\n".as_slice()
-    );
-    Ok(())
-}
-
-#[test]
-fn a_slider_follows(rt: HostRuntime) -> Result<(), Fail> {
-    // the links move by 1 and 2 m/s² a unit of the first joint: 1 * 1 + 2 * 2
-    let ran = run_over(rt.alloc(), PAIR, b"a.one\n1\n")?;
-    assert_eq!(rt; ran.status, Status::Done);
-    assert_eq!(rt;
-        ran.out.bytes(),
-        b"row,answer,cause,tau.one\n1,ok,,5.000000000000..5.000000000000\n".as_slice()
-    );
-    Ok(())
-}
-
-#[test]
-fn rows_start_from_a_state(rt: HostRuntime) -> Result<(), Fail> {
-    let options = ["--srdf", "robot.srdf", "--state", "half"];
-    let ran = run_posed(rt.alloc(), &options, ARM, POSE, b"a.hinge\n0\n")?;
-    assert_eq!(rt; ran.status, Status::Done);
-    assert_eq!(rt;
-        ran.out.bytes(),
-        b"row,answer,cause,tau.hinge\n1,ok,,4.703164533705..4.703164533716\n".as_slice()
-    );
-    let neutral = run_posed(rt.alloc(), &options[..2], ARM, POSE, b"a.hinge\n0\n")?;
-    assert_eq!(rt;
-        neutral.out.bytes(),
-        b"row,answer,cause,tau.hinge\n1,ok,,0.000000000000..0.000000000000\n".as_slice()
-    );
-    Ok(())
-}
-
-// Words behind the robot's file, the other file, the status and the line on standard error. The robot is the arm.
-const POSES: [(&[&str], &[u8], Status, &[u8]); 8] = [
+// Words, a robot, a table, the status, and what is put.
+const WORKED: [(&[&str], &[u8], &[u8], Status, &[u8]); 13] = [
     (
-        &["--srdf", "robot.srdf", "--state", "whole"],
-        POSE,
-        Status::Usage,
-        b"rbd: usage: state\n",
+        &["--task", "rnea", "--urdf", "robot.urdf"],
+        LIFT,
+        b"a.lift\n1.5\n",
+        Status::Done,
+        b"row,answer,cause,tau.lift\n1,ok,,22.620000000000..22.620000000000\n",
     ),
     (
-        &["--state", "half"],
+        &["--rows", "table.csv", "--urdf=robot.urdf", "--task=rnea"],
+        LIFT,
+        b"a.lift\n",
+        Status::Done,
+        b"row,answer,cause,tau.lift\n",
+    ),
+    // no weight: the force is the mass
+    (
+        &[
+            "--task",
+            "rnea",
+            "--urdf",
+            "robot.urdf",
+            "--gravity",
+            "0,0,0",
+        ],
+        b"<robot name='lift'><link name='base'/><link name='car'><inertial><mass value='0.1234567890123'/></inertial></link><joint name='lift' type='prismatic'><parent link='base'/><child link='car'/><axis xyz='0 0 1'/></joint></robot>",
+        b"a.lift\n1\n",
+        Status::Done,
+        b"row,answer,cause,tau.lift\n1,ok,,0.123456789012..0.123456789013\n",
+    ),
+    // the links move by 1 and 2 m/s² a unit of the first joint: 1 * 1 + 2 * 2
+    (
+        &["--task", "rnea", "--urdf", "robot.urdf"],
+        PAIR,
+        b"a.one\n1\n",
+        Status::Done,
+        b"row,answer,cause,tau.one\n1,ok,,5.000000000000..5.000000000000\n",
+    ),
+    (
+        &["--task", "rnea", "--urdf", "robot.urdf"],
+        ARM,
+        b"q.hinge\n0\n0.5\n1.5707963267949\n0.1..0.2\n8\n8.000000000001\n",
+        Status::Refused,
+        b"row,answer,cause,tau.hinge\n1,ok,,0.000000000000..0.000000000000\n2,ok,,4.703164533705..4.703164533716\n3,ok,,9.809999999990..9.810000000000\n4,ok,,0.974463266883..1.958736538447\n5,ok,,9.705604399371..9.705604399382\n6,range,q[2],\n",
+    ),
+    // a quarter turn, by its cosine and its sine
+    (
+        &["--task", "rnea", "--urdf", "robot.urdf"],
+        WHEEL,
+        b"q.hinge.sin,q.hinge.cos\n1,0\n",
+        Status::Done,
+        b"row,answer,cause,tau.hinge\n1,ok,,9.810000000000..9.810000000000\n",
+    ),
+    (
+        &["--task", "rnea", "--urdf", "robot.urdf", "--root", "planar"],
+        BOX,
+        b"a.root_joint.wz,a.root_joint.vx\n2,1\n",
+        Status::Done,
+        b"row,answer,cause,tau.root_joint.vx,tau.root_joint.vy,tau.root_joint.wz\n1,ok,,1.000000000000..1.000000000000,0.000000000000..0.000000000000,2.000000000000..2.000000000000\n",
+    ),
+    (
+        &[
+            "--task",
+            "rnea",
+            "--urdf",
+            "robot.urdf",
+            "--root",
+            "floating",
+        ],
+        BOX,
+        b"q.root_joint.qx,q.root_joint.qy,q.root_joint.qz,q.root_joint.qw\n0,0,0,0\n0,0,0,1\n",
+        Status::Refused,
+        b"row,answer,cause,tau.root_joint.vx,tau.root_joint.vy,tau.root_joint.vz,tau.root_joint.wx,tau.root_joint.wy,tau.root_joint.wz\n1,notunit,q[1],,,,,,\n2,ok,,0.000000000000..0.000000000000,0.000000000000..0.000000000000,9.810000000000..9.810000000000,0.000000000000..0.000000000000,0.000000000000..0.000000000000,0.000000000000..0.000000000000\n",
+    ),
+    (
+        &[
+            "--task",
+            "rnea",
+            "--urdf",
+            "robot.urdf",
+            "--srdf",
+            "robot.srdf",
+            "--state",
+            "half",
+        ],
+        ARM,
+        b"#n\n1\n",
+        Status::Done,
+        b"row,answer,cause,tau.hinge\n1,ok,,4.703164533705..4.703164533716\n",
+    ),
+    // a mark of byte order, CR LF, a quoted name and a quoted number, a remark, an empty field
+    (
+        &["--task", "rnea", "--urdf", "robot.urdf"],
+        LIFT,
+        b"\xef\xbb\xbf#note,\"a.lift\"\r\nfirst,\"1.5\"\r\n\"second, at rest\",\n",
+        Status::Done,
+        b"row,answer,cause,tau.lift\n1,ok,,22.620000000000..22.620000000000\n2,ok,,19.620000000000..19.620000000000\n",
+    ),
+    (
+        &["--task", "rnea", "--urdf", "robot.urdf", "--echo"],
+        LIFT,
+        b"a.lift\nx\n1..2\n",
+        Status::Refused,
+        b"row,answer,cause,in.q.lift,in.v.lift,in.a.lift,in.tau.lift,tau.lift\n1,field,NotNumber[1],,,,,\n2,ok,,0.000000000000..0.000000000000,0.000000000000..0.000000000000,1.000000000000..2.000000000000,0.000000000000..0.000000000000,21.620000000000..23.620000000000\n",
+    ),
+    (
+        &["--task", "columns", "--urdf", "robot.urdf"],
+        LIFT,
+        b"",
+        Status::Done,
+        b"q.lift,v.lift,a.lift,tau.lift\n",
+    ),
+    (
+        &["--task", "model", "--urdf", "robot.urdf"],
+        BOX,
+        b"",
+        Status::Done,
+        b"robot,box\njoint,1,0,root_joint,fixed,0.000000000000..0.000000000000,0.000000000000..0.000000000000,0.000000000000..0.000000000000,0.000000000000..0.000000000000,0.000000000000..0.000000000000,0.000000000000..0.000000000000,,,,,,,\nlink,1,box,1.000000000000..1.000000000000,0.000000000000..0.000000000000,0.000000000000..0.000000000000,0.000000000000..0.000000000000,0.000000000000..0.000000000000,0.000000000000..0.000000000000,0.000000000000..0.000000000000,1.000000000000..1.000000000000,0.000000000000..0.000000000000,0.000000000000..0.000000000000,1.000000000000..1.000000000000,0.000000000000..0.000000000000,1.000000000000..1.000000000000\nstate,\n",
+    ),
+];
+
+#[test]
+fn runs_put_what_they_are_asked_for(rt: HostRuntime) -> Result<(), Fail> {
+    for (words, robot, rows, status, out) in WORKED.iter() {
+        let held = Held {
+            robot,
+            poses: POSE,
+            rows,
+        };
+        let ran = run_words(rt.alloc(), words, held)?;
+        assert_eq!(rt; ran.out.bytes(), *out);
+        assert_eq!(rt; ran.status, *status);
+        assert_eq!(rt; ran.err.bytes(), b"".as_slice());
+    }
+    Ok(())
+}
+
+// Words, the poses, the status and the line on standard error. The robot is the arm, and nothing is put.
+const REFUSED: [(&[&str], &[u8], Status, &[u8]); 9] = [
+    (
+        &["--task", "fd", "--urdf", "robot.urdf"],
         b"",
         Status::Usage,
-        b"rbd: usage: state\n",
+        b"rbd: usage: task\n",
     ),
     (
-        &["--state", "half", "--srdf", "robot.srdf"],
-        POSE,
-        Status::Usage,
-        b"rbd: usage: words\n",
-    ),
-    (
-        &["--srdf", "robot.srdf", "--root", "free"],
+        &["--task", "rnea", "--urdf", "robot.urdf", "--root", "free"],
         b"",
         Status::Usage,
         b"rbd: usage: root\n",
     ),
     (
-        &["--srdf", "robot.srdf"],
+        &["--task", "rnea", "--urdf", "robot.urdf", "--gravity", "0,0"],
+        b"",
+        Status::Usage,
+        b"rbd: usage: gravity\n",
+    ),
+    (
+        &["--task", "rnea", "--urdf", "robot.urdf", "--state", "half"],
+        b"",
+        Status::Usage,
+        b"rbd: usage: state\n",
+    ),
+    (
+        &[
+            "--task",
+            "model",
+            "--urdf",
+            "robot.urdf",
+            "--srdf",
+            "robot.srdf",
+            "--state",
+            "whole",
+        ],
+        POSE,
+        Status::Usage,
+        b"rbd: usage: state\n",
+    ),
+    (
+        &[
+            "--task",
+            "rnea",
+            "--urdf",
+            "robot.urdf",
+            "--srdf",
+            "robot.srdf",
+        ],
         b"<robot name='arm'",
         Status::Robot,
         b"rbd: srdf: Unclosed at 0\n",
     ),
     (
-        &["--srdf", "robot.srdf"],
+        &[
+            "--task",
+            "rnea",
+            "--urdf",
+            "robot.urdf",
+            "--srdf",
+            "robot.srdf",
+        ],
         b"<robot name='arm'><group name=''/></robot>",
         Status::Robot,
         b"rbd: srdf: NoName at 18\n",
     ),
     (
-        &["--srdf", "robot.srdf"],
+        &[
+            "--task",
+            "rnea",
+            "--urdf",
+            "robot.urdf",
+            "--srdf",
+            "robot.srdf",
+        ],
         b"<robot name='leg'/>",
         Status::Robot,
         b"rbd: srdf: OtherRobot at 0\n",
     ),
     (
-        &["--srdf", "robot.srdf", "--state", "none"],
+        &[
+            "--task",
+            "columns",
+            "--urdf",
+            "robot.urdf",
+            "--srdf",
+            "robot.srdf",
+            "--state",
+            "none",
+        ],
         b"<robot name='arm'><group name='g'><joint name='knee'/></group></robot>",
         Status::Robot,
         b"rbd: srdf: UnknownName at 18\n",
@@ -334,10 +353,94 @@ const POSES: [(&[&str], &[u8], Status, &[u8]); 8] = [
 ];
 
 #[test]
-fn poses_are_refused(rt: HostRuntime) -> Result<(), Fail> {
-    for (options, poses, status, line) in POSES.iter() {
-        let ran = run_posed(rt.alloc(), options, ARM, poses, b"a.hinge\n0\n")?;
+fn words_and_poses_are_refused(rt: HostRuntime) -> Result<(), Fail> {
+    for (words, poses, status, line) in REFUSED.iter() {
+        let held = Held {
+            robot: ARM,
+            poses,
+            rows: b"a.hinge\n0\n",
+        };
+        let ran = run_words(rt.alloc(), words, held)?;
+        assert_eq!(rt; ran.err.bytes(), *line);
         assert_eq!(rt; ran.status, *status);
+        assert_eq!(rt; ran.out.bytes(), b"".as_slice());
+    }
+    Ok(())
+}
+
+#[test]
+fn the_parser_of_words_says_more(rt: HostRuntime) -> Result<(), Fail> {
+    let none: [&[&str]; 3] = [
+        &["--task", "rnea"],
+        &["--help"],
+        &["--task", "rnea", "--urdf", "a", "--wings"],
+    ];
+    for words in none {
+        let held = Held {
+            robot: LIFT,
+            poses: b"",
+            rows: b"",
+        };
+        let ran = run_words(rt.alloc(), words, held)?;
+        assert_eq!(rt; ran.status, Status::Usage);
+        assert!(rt; ran.err.bytes().starts_with(b"rbd: usage: words\n"));
+        assert_eq!(rt; ran.out.bytes(), b"".as_slice());
+    }
+    Ok(())
+}
+
+// A robot file, and the line on standard error.
+const ROBOTS: [(&[u8], &[u8]); 3] = [
+    (
+        br#"<robot name="lift"><link name="base"/><link name="car"/></robot>"#,
+        b"rbd: urdf: TwoRoots at 38\n",
+    ),
+    (
+        br#"<robot name="lift"><link name="ba"#,
+        b"rbd: urdf: Unclosed at 19\n",
+    ),
+    (
+        br#"<robot name="r"><link/></robot>"#,
+        b"rbd: urdf: NoName at 16\n",
+    ),
+];
+
+#[test]
+fn robots_are_refused(rt: HostRuntime) -> Result<(), Fail> {
+    for (robot, line) in ROBOTS.iter() {
+        let ran = run_over(rt.alloc(), robot, b"a.lift\n1.5\n")?;
+        assert_eq!(rt; ran.status, Status::Robot);
+        assert_eq!(rt; ran.out.bytes(), b"".as_slice());
+        assert_eq!(rt; ran.err.bytes(), *line);
+    }
+    Ok(())
+}
+
+// A header of the lift, and the line on standard error.
+const HEADERS: [(&[u8], &[u8]); 7] = [
+    (b"", b"rbd: rows: BadHeader at field 0\n"),
+    (b"\n\r\n", b"rbd: rows: BadHeader at field 0\n"),
+    (b"a.lift\rq.lift\n1\n", b"rbd: rows: BadHeader at field 0\n"),
+    (b"a.lift,\xff\n1,2\n", b"rbd: rows: BadHeader at field 0\n"),
+    (
+        b"a.lift,#,lift\n1,2,3\n",
+        b"rbd: rows: UnknownColumn at field 3\n",
+    ),
+    (
+        b"a.lift,v.lift,a.lift\n1,2,3\n",
+        b"rbd: rows: ColumnTwice at field 3\n",
+    ),
+    (
+        b"a.lift,,x\n1,2,3\n",
+        b"rbd: rows: UnknownColumn at field 2\n",
+    ),
+];
+
+#[test]
+fn headers_are_refused(rt: HostRuntime) -> Result<(), Fail> {
+    for (rows, line) in HEADERS.iter() {
+        let ran = run_over(rt.alloc(), LIFT, rows)?;
+        assert_eq!(rt; ran.status, Status::Rows);
         assert_eq!(rt; ran.out.bytes(), b"".as_slice());
         assert_eq!(rt; ran.err.bytes(), *line);
     }
@@ -345,51 +448,18 @@ fn poses_are_refused(rt: HostRuntime) -> Result<(), Fail> {
 }
 
 #[test]
-fn words_are_read(rt: HostRuntime) -> Result<(), Fail> {
-    let fixed = run_from(rt.alloc(), "fixed", LIFT, b"a.lift\n")?;
-    assert_eq!(rt; fixed.out.bytes(), FIRST);
-    let other = run_from(rt.alloc(), "free", LIFT, b"a.lift\n")?;
-    assert_eq!(rt; other.status, Status::Usage);
-    assert_eq!(rt; other.err.bytes(), b"rbd: usage: root\n".as_slice());
-    let one = run_failing(rt.alloc(), &["--root"], LIFT, b"", &[], &[])?;
-    assert_eq!(rt; one.status, Status::Usage);
-    assert_eq!(rt; one.err.bytes(), b"rbd: usage: words\n".as_slice());
-    Ok(())
-}
-
-#[test]
-fn a_second_root_is_refused(rt: HostRuntime) -> Result<(), Fail> {
-    let two = br#"<robot name="lift"><link name="base"/><link name="car"/></robot>"#;
-    let ran = run_over(rt.alloc(), two, b"a.lift\n1.5\n")?;
-    assert_eq!(rt; ran.status, Status::Robot);
-    assert_eq!(rt; ran.out.bytes(), b"".as_slice());
-    assert_eq!(rt; ran.err.bytes(), b"rbd: urdf: TwoRoots at 38\n".as_slice());
-    Ok(())
-}
-
-#[test]
-fn other_names_are_unbuilt(rt: HostRuntime) -> Result<(), Fail> {
-    // the joint comes first in the file, and its name is the first that has another character
-    let odd =
-        br#"<robot name="r"><joint name="j-1" type="fixed"><parent link="a"/><child link="b.c"/></joint><link name="a"/><link name="b.c"/></robot>"#;
-    let ran = run_over(rt.alloc(), odd, b"a.j\n")?;
-    assert_eq!(rt; ran.status, Status::Robot);
-    assert_eq!(rt; ran.err.bytes(), b"rbd: urdf: Unbuilt at 16\n".as_slice());
-    let nameless = run_over(rt.alloc(), br#"<robot name="r"><link/></robot>"#, b"")?;
+fn fields_are_refused(rt: HostRuntime) -> Result<(), Fail> {
+    let ran = run_over(
+        rt.alloc(),
+        LIFT,
+        b"a.lift\r\n1.5,0\r\n\r\nx\n2000000000000\n1e3\n1..2\n2..1\n1\r2\n+.5",
+    )?;
+    assert_eq!(rt; ran.status, Status::Refused);
     assert_eq!(rt;
-        nameless.err.bytes(),
-        b"rbd: urdf: NoName at 16\n".as_slice()
+        ran.out.bytes(),
+        b"row,answer,cause,tau.lift\n1,field,Count[2],\n2,field,NotNumber[1],\n3,field,TooLarge[1],\n4,ok,,2019.620000000000..2019.620000000000\n5,ok,,21.620000000000..23.620000000000\n6,field,Backwards[1],\n7,field,Count[0],\n8,ok,,20.620000000000..20.620000000000\n".as_slice()
     );
-    Ok(())
-}
-
-#[test]
-fn a_cut_file_is_unclosed(rt: HostRuntime) -> Result<(), Fail> {
-    let cut = br#"<robot name="lift"><link name="ba"#;
-    let ran = run_over(rt.alloc(), cut, b"a.lift\n1.5\n")?;
-    assert_eq!(rt; ran.status, Status::Robot);
-    assert_eq!(rt; ran.out.bytes(), b"".as_slice());
-    assert_eq!(rt; ran.err.bytes(), b"rbd: urdf: Unclosed at 19\n".as_slice());
+    assert_eq!(rt; ran.err.bytes(), b"".as_slice());
     Ok(())
 }
 
@@ -414,37 +484,52 @@ fn sizes_are_refused(rt: HostRuntime) -> Result<(), Fail> {
 }
 
 #[test]
-fn fields_are_refused(rt: HostRuntime) -> Result<(), Fail> {
-    let ran = run_over(
-        rt.alloc(),
-        LIFT,
-        b"a.lift\r\n1.5,0\r\n\r\nx\n2000000000000\n1e3\n1..2\n2..1\n+.5",
+fn one_bad_field_among_many_rows(rt: HostRuntime) -> Result<(), Fail> {
+    let alloc = rt.alloc();
+    let mut rows = Vec::from_slice(
+        alloc,
+        b"q.j0,q.j1,q.j2,q.j3,q.j4,q.j5,q.j6,v.j0,v.j1,v.j2,v.j3,v.j4,v.j5,v.j6,a.j0,a.j1,a.j2,a.j3,a.j4,a.j5,a.j6\n",
     )?;
+    for row in 1..301 {
+        let last = if row == 257 {
+            b"one\n".as_slice()
+        } else {
+            b"1\n"
+        };
+        rows.extend_from_slice(b"0,0,0,0,0,0,0,0,0,0,0,0,0,0,0,0,0,0,0,0,")?;
+        rows.extend_from_slice(last)?;
+    }
+    let ran = run_over(alloc, tower_of(alloc, 7)?.as_slice(), rows.as_slice())?;
     assert_eq!(rt; ran.status, Status::Refused);
-    assert_eq!(rt;
-        ran.out.bytes(),
-        b"row,answer,cause,tau.lift\n1,field,Count[2],\n2,field,NotNumber[1],\n3,field,TooLarge[1],\n4,ok,,2019.620000000000..2019.620000000000\n5,ok,,21.620000000000..23.620000000000\n6,field,Backwards[1],\n7,ok,,20.620000000000..20.620000000000\n".as_slice()
-    );
-    assert_eq!(rt; ran.err.bytes(), b"".as_slice());
+    let lines = ran.out.bytes().split(|byte| *byte == b'\n');
+    let mut count: usize = 0;
+    for line in lines {
+        if count == 257 {
+            assert_eq!(rt; line, b"257,field,NotNumber[21],,,,,,,".as_slice());
+        }
+        count = count.wrapping_add(1);
+    }
+    assert_eq!(rt; count, 302);
     Ok(())
 }
 
 #[test]
 fn a_read_fails(rt: HostRuntime) -> Result<(), Fail> {
     // the robot is opened and read in two calls, the rows are opened by the fourth
-    let ran = run_failing(rt.alloc(), &[], LIFT, b"a.lift\n1.5\n", &[5], &[])?;
+    let held = Held {
+        robot: LIFT,
+        poses: b"",
+        rows: b"a.lift\n1.5\n",
+    };
+    let words = ["--task", "rnea", "--urdf", "robot.urdf"];
+    let ran = run_failing(rt.alloc(), &words, held, &[5], &[])?;
     assert_eq!(rt; ran.status, Status::InputFault);
     assert_eq!(rt; ran.out.bytes(), b"".as_slice());
     assert_eq!(rt; ran.err.bytes(), b"rbd: input failed\n".as_slice());
-    Ok(())
-}
-
-#[test]
-fn a_write_fails(rt: HostRuntime) -> Result<(), Fail> {
-    let ran = run_failing(rt.alloc(), &[], LIFT, b"a.lift\n1.5\n", &[], &[1])?;
-    assert_eq!(rt; ran.status, Status::OutputFault);
-    assert_eq!(rt; ran.out.bytes(), b"".as_slice());
-    assert_eq!(rt; ran.err.bytes(), b"rbd: output failed\n".as_slice());
+    let stopped = run_failing(rt.alloc(), &words, held, &[], &[1])?;
+    assert_eq!(rt; stopped.status, Status::OutputFault);
+    assert_eq!(rt; stopped.out.bytes(), b"".as_slice());
+    assert_eq!(rt; stopped.err.bytes(), b"rbd: output failed\n".as_slice());
     Ok(())
 }
 
@@ -472,10 +557,10 @@ fn lines_are_limited(rt: HostRuntime) -> Result<(), Fail> {
 #[test]
 fn columns_are_limited(rt: HostRuntime) -> Result<(), Fail> {
     let alloc = rt.alloc();
-    let most = run_over(alloc, tower_of(alloc, 64)?.as_slice(), b"a.j0\n")?;
+    let most = run_over(alloc, tower_of(alloc, 64)?.as_slice(), b"a.j64\n")?;
     assert_eq!(rt;
         most.err.bytes(),
-        b"rbd: rows: BadHeader at field 0\n".as_slice()
+        b"rbd: rows: UnknownColumn at field 1\n".as_slice()
     );
     let more = run_over(alloc, tower_of(alloc, 65)?.as_slice(), b"a.j0\n")?;
     assert_eq!(rt; more.status, Status::Robot);

@@ -1,6 +1,0 @@
-use Rattle.std.proofs.Common.{◌≡◌, ◌++◌, ◌-◌, take, flat_map}
-use Rattle.rbd.specs.Columns.{of_body, columns_of}
-use Rattle.rbd.proofs.columns.put_columns.Given as goal
-
-abbrev pub invariant-loop-i : goal.invariant-loop-i
-invariant-loop-i l = l.text.items ≡ l.fn.text.items ++ flat_map (of_body columns_of l.prefix) (take (l.i - 1) l.robot.bodies)
