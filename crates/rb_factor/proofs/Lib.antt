@@ -1,2 +1,11 @@
 pub mod Paths
 pub mod Going
+pub mod Traces
+pub mod PathSweeps
+pub mod Entries
+pub mod Refusals
+pub mod Factoring
+pub mod Eliminated
+pub mod Reducing
+pub mod Finding
+pub mod Relations
