@@ -9,3 +9,5 @@ pub mod Eliminated
 pub mod Reducing
 pub mod Finding
 pub mod Relations
+pub mod OneFactor
+pub mod OneSolve
