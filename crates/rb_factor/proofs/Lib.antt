@@ -11,3 +11,4 @@ pub mod Finding
 pub mod Relations
 pub mod OneFactor
 pub mod OneSolve
+pub mod Answered

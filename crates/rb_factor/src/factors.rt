@@ -115,3 +115,18 @@ fn eliminate_all(work: &mut Work) -> Result<(), RowFault>
     }
     Ok(())
 }
+
+/// Replaces the mass table `M` by its factors: each `M[c.c]` by the pivot `D[c]`, and each `M[c.d]` by the factor `L[c.d]`, from the last column to the
+/// first (Featherstone, Rigid Body Dynamics Algorithms, chapter 6: the table is the product of `L` transposed, `D` and `L`, and no entry off the
+/// paths is needed). All numbers are on the grid of `Iv`. The first name that is refused is told: `Pivot` under `D[c]`, with what stands there,
+/// where zero lies in it, or `Size` under `L[c.d]`, where the quotient or an entry of row `d` is too large; the table is then of no use.
+/// For each table within `M` the factors lie in `L` and `D`. Takes no memory, and writes `M`, `D` and `L` alone, which are one table.
+pub fn factor(work: &mut Work) -> Result<(), RowFault>
+    ensures values { OnOk result (HoldsFactors work.old work.new) }
+    ensures refused { IfErr result (RefusesFactor work.old) }
+    ensures encloses { OnOk result (EnclosesFactors work.old work.new) }
+    ensures others { work.new ≡ record work.old { packed = work.new.packed } }
+{
+    let _sizes = work.columns();
+    eliminate_all(work)
+}

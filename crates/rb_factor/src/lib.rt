@@ -3,7 +3,8 @@
 #![tactic(auto)]
 
 mod factors;
+pub mod laws;
 mod solution;
 
-
-
+pub use factors::factor;
+pub use solution::{divide, reduce, solve, substitute};

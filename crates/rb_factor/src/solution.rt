@@ -131,3 +131,58 @@ fn find_all(work: &mut Work) -> Result<(), RowFault>
     }
     Ok(())
 }
+
+/// The first step of a solution: from the last column to the first, takes from the right side `w` at each ancestor of a column its own `w` times `L`
+/// (Featherstone, Rigid Body Dynamics Algorithms, chapter 6). The first column whose step is too large is refused as `Size` under `w[c]`. What each
+/// right side within `w` leaves, by factors within `L`, lies in the new `w`. Takes no memory, and writes `w` alone.
+pub fn reduce(work: &mut Work) -> Result<(), RowFault>
+    ensures values { OnOk result (HoldsReduced work.old work.new) }
+    ensures refused { IfErr result (RefusesReduce work.old) }
+    ensures encloses { OnOk result (EnclosesReduced work.old work.new) }
+    ensures others { work.new ≡ record work.old { w = work.new.w } }
+{
+    let _sizes = work.columns();
+    take_all(work)
+}
+
+/// The second step of a solution: `z[c]` is `w[c]` divided by the pivot `D[c]`, from the first column on. A quotient that is too large is refused as
+/// `Size` under `z[c]`; no pivot may contain zero. The quotients of all numbers within `w` and `D` lie in `z`. Takes no memory, and writes `z` alone.
+pub fn divide(work: &mut Work) -> Result<(), RowFault>
+    requires divisors { HoldsDivisors work.old }
+    ensures values { OnOk result (HoldsDivided work.old work.new) }
+    ensures refused { IfErr result (RefusesDivide work.old) }
+    ensures encloses { OnOk result (EnclosesDivided work.old work.new) }
+    ensures others { work.new ≡ record work.old { z = work.new.z } }
+{
+    let _sizes = work.columns();
+    divide_all(work)
+}
+
+/// The last step of a solution: from the first column to the last, `x[c]` is `z[c]`, less `L` times the `x` of each ancestor, the nearest first
+/// (Featherstone, Rigid Body Dynamics Algorithms, chapter 6). The first column whose step is too large is refused as `Size` under `x[c]`. What is found
+/// from all numbers within `z` and `L` lies in `x`. Takes no memory, and writes `x` alone.
+pub fn substitute(work: &mut Work) -> Result<(), RowFault>
+    ensures values { OnOk result (HoldsSubstituted work.old work.new) }
+    ensures refused { IfErr result (RefusesSubstitute work.old) }
+    ensures encloses { OnOk result (EnclosesSubstituted work.old work.new) }
+    ensures others { work.new ≡ record work.old { x = work.new.x } }
+{
+    let _sizes = work.columns();
+    find_all(work)
+}
+
+/// Solves the equations of the table whose factors are held as `L` and `D`, for the right side `w`: `reduce`, `divide` and `substitute` in turn, with
+/// their refusals. For all factors within `L` and `D`, and each right side within `w`, the equations of their table have exactly one solution, and it lies
+/// in `x`. No pivot may contain zero. Takes no memory, and writes `w`, `z` and `x` alone.
+pub fn solve(work: &mut Work) -> Result<(), RowFault>
+    requires divisors { HoldsDivisors work.old }
+    ensures values { OnOk result (HoldsSolution work.old work.new) }
+    ensures refused { IfErr result (RefusesSolve work.old) }
+    ensures encloses { OnOk result (EnclosesSolution work.old work.new) }
+    ensures others { work.new ≡ record work.old { w = work.new.w; z = work.new.z; x = work.new.x } }
+{
+    let _sizes = work.columns();
+    reduce(work)?;
+    divide(work)?;
+    substitute(work)
+}
