@@ -16,8 +16,8 @@ use Rattle.rb_elimination.proofs.Related.{pivots_met, factors_met, reduced_met, 
 use Rattle.rb_elimination.proofs.Solutions.{factors_solve}
 use Rattle.rb_elimination.proofs.Exists.{found_exists}
 use Rattle.rb_factor.specs.Steps.{interval_steps, AreDivisors}
-use Rattle.rb_factor.specs.Factor.{HoldsFactors, RefusesFactor}
-use Rattle.rb_factor.specs.Solve.{HoldsDivisors, HoldsReduced, HoldsDivided, HoldsSubstituted, HoldsSolution, RefusesReduce, RefusesDivide, RefusesSubstitute, RefusesSolve, by_reduce, by_divide, by_substitute}
+use Rattle.rb_factor.specs.Factor.{HoldsDivisors, HoldsFactors, RefusesFactor}
+use Rattle.rb_factor.specs.Solve.{HoldsReduced, HoldsDivided, HoldsSubstituted, HoldsSolution, RefusesReduce, RefusesDivide, RefusesSubstitute, RefusesSolve, by_reduce, by_divide, by_substitute}
 use Rattle.rb_factor.specs.Laws.{NumbersLie, FactorsLie, AreWithin, EnclosesFactors, EnclosesReduced, EnclosesDivided, EnclosesSubstituted, EnclosesSolution}
 use Rattle.rb_factor.specs.Sweeps.{entry_at, factor_of, reduce_of, divide_of, substitute_of}
 use Rattle.rb_factor.proofs.Refusals.{divisor_told}

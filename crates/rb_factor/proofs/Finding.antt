@@ -123,16 +123,18 @@ module _ (up : List ℕ) (ascends : Ascends up) (table : List Interval) where
           let from : 1 ≤ suc c = omega arith in
           let value = value_at up ascends (substitute_step up table quotients) (λ c u. part_of up table quotients u c) substitute_puts n most s t a fit c l in
           let k : Climb up ascends (part_step up table (a.at c) (suc c)) (above up (suc c)) (number_at quotients (suc c)) (number_at t (suc c)) =
-          climbs up ascends (part_step up table (a.at c) (suc c)) (above up (suc c)) (number_at quotients (suc c)) (number_at t (suc c)) value in
-          (k.at, record {
-            first = k.first;
-            result = sym k.last;
-            updates = λ d i.
-                let less : d < suc c = ancestor_less up ascends (suc c) d from i in
-                ap (λ x. lessened (k.at d) (entry_at up table (suc c) d) x)
-                (sym (later up ascends (substitute_step up table quotients) (λ c u. part_of up table quotients u c) substitute_puts n most s t a fit d c (omega arith) (omega arith)))
-                ∙ sym (part_step_is (a.at c) (suc c) d (k.at d)) ∙ k.each d (listed_ancestor up ascends (suc c) d from i);
-          })
+          climbs up ascends (part_step up table (a.at c) (suc c)) (above up (suc c)) (number_at quotients (suc c)) (number_at t (suc c)) value in (
+            k.at,
+            record {
+              first = k.first;
+              result = sym k.last;
+              updates = λ d i.
+                  let less : d < suc c = ancestor_less up ascends (suc c) d from i in
+                  ap (λ x. lessened (k.at d) (entry_at up table (suc c) d) x)
+                  (sym (later up ascends (substitute_step up table quotients) (λ c u. part_of up table quotients u c) substitute_puts n most s t a fit d c (omega arith) (omega arith)))
+                  ∙ sym (part_step_is (a.at c) (suc c) d (k.at d)) ∙ k.each d (listed_ancestor up ascends (suc c) d from i);
+            },
+          )
 
       abbrev own_of : (c : ℕ) → (c < n) ⊎ (n ≤ c) → ℕ → Interval
       own_of c (inl l) d = (chain c l).0 d
@@ -151,12 +153,14 @@ module _ (up : List ℕ) (ascends : Ascends up) (table : List Interval) where
 
       pub substituted_to : (part : ℕ → ℕ → Interval) × IsSubstituted interval_steps n (above up) (entry_at up table) (number_at quotients) part (number_at t)
       substituted_to =
-          let each : (c : ℕ) → IsColumn n c → Chain (number_at t) c (part c) = column_from (λ c. Chain (number_at t) c (part c)) n part_chain in
-          (part, record {
-            first = λ c i. (each c i).first;
-            result = λ c i. (each c i).result;
-            updates = λ c d i a. (each c i).updates d a;
-          })
+          let each : (c : ℕ) → IsColumn n c → Chain (number_at t) c (part c) = column_from (λ c. Chain (number_at t) c (part c)) n part_chain in (
+            part,
+            record {
+              first = λ c i. (each c i).first;
+              result = λ c i. (each c i).result;
+              updates = λ c d i a. (each c i).updates d a;
+            },
+          )
 
     pub substituted : (s t : List Interval) → substitute_of up table quotients s ≡ Ok t → Holds up s
         → (part : ℕ → ℕ → Interval) × IsSubstituted interval_steps (length up) (above up) (entry_at up table) (number_at quotients) part (number_at t)

@@ -129,7 +129,7 @@ module _ (n : ℕ) (up : ℕ → ℕ) (regular : IsRegular n up) (L L' : ℕ →
       g.refused
 
 -- ---- quotients
-divide_either : (n : ℕ) (up : ℕ → ℕ) (D D' w w' z : ℕ → Interval) → SameNumbers n D D' → SameNumbers n w w' → IsDivided interval_steps n up D w z → (e : RowFault)
+pub divide_either : (n : ℕ) (up : ℕ → ℕ) (D D' w w' z : ℕ → Interval) → SameNumbers n D D' → SameNumbers n w w' → IsDivided interval_steps n up D w z → (e : RowFault)
     → IsDivideRefused n D' w' e → ⊥
 divide_either n up D D' w w' z pivots start h e g =
     not-both (iv_div (w' g.column) (D' g.column)) (z g.column) N.Size (rw (← start g.column g.there, ← pivots g.column g.there) (h g.column g.there)) g.refused
@@ -140,12 +140,12 @@ divide_first n D D' w w' pivots start d e f g l =
     let q = g.until f.column f.there.from l in
     not-both (iv_div (w f.column) (D f.column)) q.0 N.Size (rw (start f.column f.there, pivots f.column f.there) q.1) f.refused
 
-divided_same : (n : ℕ) (up : ℕ → ℕ) (D D' w w' z z' : ℕ → Interval) → SameNumbers n D D' → SameNumbers n w w' → IsDivided interval_steps n up D w z
+pub divided_same : (n : ℕ) (up : ℕ → ℕ) (D D' w w' z z' : ℕ → Interval) → SameNumbers n D D' → SameNumbers n w w' → IsDivided interval_steps n up D w z
     → IsDivided interval_steps n up D' w' z' → SameNumbers n z z'
 divided_same n up D D' w w' z z' pivots start h h' c i = same_ok (z c) (z' c) (sym (h c i) ∙ rw (start c i, pivots c i) (h' c i))
 
 module _ (n : ℕ) (up : ℕ → ℕ) (regular : IsRegular n up) (L L' : ℕ → ℕ → Interval) (D D' : ℕ → Interval) (factors : SameFactors n up L L') (pivots : SameNumbers n D D') where
-  reduce_same : (right right' : ℕ → Interval) → SameNumbers n right right' → (d e : RowFault) → IsReduceRefused n up L right d → IsReduceRefused n up L' right' e → d ≡ e
+  pub reduce_same : (right right' : ℕ → Interval) → SameNumbers n right right' → (d e : RowFault) → IsReduceRefused n up L right d → IsReduceRefused n up L' right' e → d ≡ e
   reduce_same right right' start d e f g =
       elim (cases_lt f.column g.column) [
         | inl l ↦
@@ -160,7 +160,7 @@ module _ (n : ℕ) (up : ℕ → ℕ) (regular : IsRegular n up) (L L' : ℕ →
         ]
       ]
 
-  divide_same : (w w' : ℕ → Interval) → SameNumbers n w w' → (d e : RowFault) → IsDivideRefused n D w d → IsDivideRefused n D' w' e → d ≡ e
+  pub divide_same : (w w' : ℕ → Interval) → SameNumbers n w w' → (d e : RowFault) → IsDivideRefused n D w d → IsDivideRefused n D' w' e → d ≡ e
   divide_same w w' start d e f g =
       elim (cases_lt f.column g.column) [
         | inl l ↦ absurd (divide_first n D D' w w' pivots start d e f g l)
@@ -170,7 +170,7 @@ module _ (n : ℕ) (up : ℕ → ℕ) (regular : IsRegular n up) (L L' : ℕ →
         ]
       ]
 
-  substitute_same : (z z' : ℕ → Interval) → SameNumbers n z z' → (d e : RowFault) → IsSubstituteRefused n up L z d → IsSubstituteRefused n up L' z' e → d ≡ e
+  pub substitute_same : (z z' : ℕ → Interval) → SameNumbers n z z' → (d e : RowFault) → IsSubstituteRefused n up L z d → IsSubstituteRefused n up L' z' e → d ≡ e
   substitute_same z z' start d e f g =
       elim (cases_lt f.found g.found) [
         | inl l ↦
@@ -182,7 +182,7 @@ module _ (n : ℕ) (up : ℕ → ℕ) (regular : IsRegular n up) (L L' : ℕ →
         ]
       ]
 
-  w_same : (right right' : ℕ → Interval) → SameNumbers n right right' → (left left' : ℕ → ℕ → Interval) (w w' : ℕ → Interval)
+  pub w_same : (right right' : ℕ → Interval) → SameNumbers n right right' → (left left' : ℕ → ℕ → Interval) (w w' : ℕ → Interval)
       → IsReduced interval_steps n up L right left w → IsReduced interval_steps n up L' right' left' w' → SameNumbers n w w'
   unfolding intervals_same
   w_same right right' start left left' w w' h h' = reduced_met intervals_same n up regular L L' factors right left w right' left' w' h h' start

@@ -110,11 +110,11 @@ module _ {S E : Type 0} (up : List ℕ) (ascends : Ascends up) (step : ℕ → S
         let m : above up (suc x) < suc x = less x in
         elim (first_err (suc x) s e (omega arith) h) [
           | inl r ↦ record {
-              at = suc x;
-              on = on_self up ascends (suc x) (omega arith);
-              nearer = λ b i g. let most : b ≤ suc x = on_most up ascends (suc x) b i in absurd (omega arith);
-              refused = p.refuses (suc x) s e (own x w) r;
-            }
+            at = suc x;
+            on = on_self up ascends (suc x) (omega arith);
+            nearer = λ b i g. let most : b ≤ suc x = on_most up ascends (suc x) b i in absurd (omega arith);
+            refused = p.refuses (suc x) s e (own x w) r;
+          }
           | inr q ↦
               let r : Stop (above up (suc x)) q.0 e = stop_within n (above up (suc x)) (omega arith) (within_above x w) q.0 e q.2 in
               let near : r.at ≤ above up (suc x) = on_most up ascends (above up (suc x)) r.at r.on in
@@ -213,13 +213,13 @@ module _ {S E : Type 0} (up : List ℕ) (ascends : Ascends up) (step : ℕ → S
       let m : above up (suc a) < suc a = less a in
       elim (first_err (suc a) s e (omega arith) h) [
         | inl r ↦ record {
-            at = λ d. s;
-            first = refl;
-            stop = suc a;
-            on = on_self up ascends (suc a) (omega arith);
-            nearer = λ b i g. let most : b ≤ suc a = on_most up ascends (suc a) b i in absurd (omega arith);
-            refused = r;
-          }
+          at = λ d. s;
+          first = refl;
+          stop = suc a;
+          on = on_self up ascends (suc a) (omega arith);
+          nearer = λ b i g. let most : b ≤ suc a = on_most up ascends (suc a) b i in absurd (omega arith);
+          refused = r;
+        }
         | inr q ↦
             let c : Halt (above up (suc a)) q.0 e = halts_within n (above up (suc a)) (omega arith) q.0 e q.2 in
             let near : c.stop ≤ above up (suc a) = on_most up ascends (above up (suc a)) c.stop c.on in

@@ -135,14 +135,16 @@ module _ (up : List ℕ) (ascends : Ascends up) (table : List Interval) where
       let a = reduced_above 0 s t d fit in
       let result : (c : ℕ) → IsColumn (length up) c → number_at t c ≡ number_at (d.at c) c =
       λ c i. (let q : suc (c - 1) ≡ c = omega (arith, i.from) in
-      subst (λ m. number_at t m ≡ number_at (d.at m) m) q (result_at 0 s t d fit (c - 1) (omega arith) (omega (arith, i.from, i.to)))) in
-      (λ c. number_at (d.at c), record {
-        first = a.first;
-        result = result;
-        updates = λ c b l i.
-            ap (λ x. lessened (number_at (d.at (suc c)) b) (entry_at up table (suc c) b) x) (result_at 0 s t d fit c (omega arith) l) ∙ (a.each c (omega arith) l).updates b i;
-        others = λ c b l i free. (a.each c (omega arith) l).others b i.from (let to : b ≤ c = i.to in omega arith) free;
-      })
+      subst (λ m. number_at t m ≡ number_at (d.at m) m) q (result_at 0 s t d fit (c - 1) (omega arith) (omega (arith, i.from, i.to)))) in (
+        λ c. number_at (d.at c),
+        record {
+          first = a.first;
+          result = result;
+          updates = λ c b l i.
+              ap (λ x. lessened (number_at (d.at (suc c)) b) (entry_at up table (suc c) b) x) (result_at 0 s t d fit c (omega arith) l) ∙ (a.each c (omega arith) l).updates b i;
+          others = λ c b l i free. (a.each c (omega arith) l).others b i.from (let to : b ≤ c = i.to in omega arith) free;
+        },
+      )
 
   pub reduction_refused : (s : List Interval) (e : RowFault) → reduce_of up table s ≡ Err e → Holds up s
       → IsReduceRefused (length up) (above up) (entry_at up table) (number_at s) e

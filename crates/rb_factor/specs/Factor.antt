@@ -15,12 +15,16 @@ use Rattle.rb_elimination.specs.Paths as P
 use Rattle.rb_elimination.specs.Factors.{AreFactors}
 use Rattle.rb_factor.specs.Steps.{lessened, interval_steps, AreDivisors}
 
+-- zero lies in no pivot that a work holds
+abbrev pub HoldsDivisors : View → Type 0
+HoldsDivisors held = AreDivisors (columns_of held) (D_at held)
+
 -- ---- values
 -- a work holds the factors of the table that another one held, and zero lies in no pivot
 pub record HoldsFactors (given held : View) : Type 0 where
   pub table : ℕ → ℕ → ℕ → Interval
   pub are : AreFactors interval_steps (columns_of given) (above given.up) (M_at given) table (L_at held) (D_at held)
-  pub divisors : AreDivisors (columns_of given) (D_at held)
+  pub divisors : HoldsDivisors held
 
 -- ---- refusals
 -- column c is eliminated from a table, which leaves another: `AreFactors` says this of all columns

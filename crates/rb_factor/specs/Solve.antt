@@ -11,11 +11,7 @@ use Rattle.rb_work.specs.Path.{above}
 use Rattle.rb_work.specs.View.{View, columns_of, L_at, D_at, w_at, z_at, x_at}
 use Rattle.rb_elimination.specs.Paths.{IsColumn, IsAncestor}
 use Rattle.rb_elimination.specs.Solving.{IsReduced, IsDivided, IsSubstituted}
-use Rattle.rb_factor.specs.Steps.{lessened, interval_steps, AreDivisors}
-
--- zero lies in no pivot that a work holds
-abbrev pub HoldsDivisors : View → Type 0
-HoldsDivisors held = AreDivisors (columns_of held) (D_at held)
+use Rattle.rb_factor.specs.Steps.{lessened, interval_steps}
 
 -- ---- values
 -- w of a work is what the right side w of another one is reduced to

@@ -8,3 +8,6 @@ mod solution;
 
 pub use factors::factor;
 pub use solution::{divide, reduce, solve, substitute};
+
+#[cfg(test)]
+mod tests;

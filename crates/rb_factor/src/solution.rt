@@ -5,7 +5,8 @@ ghost use Rattle.rb_num.specs.declared.interval.NumFault.{NumFault};
 ghost use Rattle.rb_sweep.specs.Sweep.{Answers, sweep};
 ghost use Rattle.rb_work.specs.Path.{IsOn};
 ghost use Rattle.rb_work.specs.View.{columns_of, w_at};
-ghost use Rattle.rb_factor.specs.Solve.{HoldsDivisors, HoldsReduced, HoldsDivided, HoldsSubstituted, HoldsSolution, RefusesReduce, RefusesDivide, RefusesSubstitute, RefusesSolve};
+ghost use Rattle.rb_factor.specs.Factor.{HoldsDivisors};
+ghost use Rattle.rb_factor.specs.Solve.{HoldsReduced, HoldsDivided, HoldsSubstituted, HoldsSolution, RefusesReduce, RefusesDivide, RefusesSubstitute, RefusesSolve};
 ghost use Rattle.rb_factor.specs.Laws.{EnclosesReduced, EnclosesDivided, EnclosesSubstituted, EnclosesSolution};
 ghost use Rattle.rb_factor.specs.Sweeps.{take_step, reduce_step, reduce_of, divide_step, divide_of, part_step, part_of, substitute_step, substitute_of};
 
@@ -23,10 +24,7 @@ fn lessen_number(c: u32, own: Iv, d: u32, work: &mut Work) -> Result<(), RowFaul
     ensures others { work.new ≡ record work.old { w = work.new.w } }
 {
     let m = work.L(c, d).neg();
-    let r = named(
-        with_product(work.w(d), m, own),
-        Name::one(NameKind::w, c),
-    )?;
+    let r = named(with_product(work.w(d), m, own), Name::one(NameKind::w, c))?;
     work.set_w(d, r);
     Ok(())
 }
