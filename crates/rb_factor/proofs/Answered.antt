@@ -1,5 +1,5 @@
 -- What the answers of the sweeps over a work say of it.
-use Rattle.std.proofs.Common.{◌≡◌, inl, inr, ℕ, suc, ◌+◌, ◌<◌, ◌≤◌, max, min, List, length, Result, Ok, Err, OnOk, IfErr, refl, ap, sym, ◌∙◌, subst, arith}
+use Rattle.std.proofs.Common.{◌≡◌, ℕ, ◌≤◌, max, min, List, Result, Ok, Err, OnOk, refl, ap, sym, ◌∙◌, subst, arith}
 use Rattle.rb_num.specs.Interval.{Interval}
 use Rattle.rb_frac.specs.Frac.{Frac}
 use Rattle.rb_sweep.specs.Sweep.{Answers}
@@ -15,10 +15,10 @@ use Rattle.rb_elimination.specs.Laws.{ArePivots}
 use Rattle.rb_elimination.proofs.Related.{pivots_met, factors_met, reduced_met, substituted_met, found_met}
 use Rattle.rb_elimination.proofs.Solutions.{factors_solve}
 use Rattle.rb_elimination.proofs.Exists.{found_exists}
-use Rattle.rb_factor.specs.Steps.{interval_steps, AreDivisors}
+use Rattle.rb_factor.specs.Steps.{interval_steps}
 use Rattle.rb_factor.specs.Factor.{HoldsDivisors, HoldsFactors, RefusesFactor}
 use Rattle.rb_factor.specs.Solve.{HoldsReduced, HoldsDivided, HoldsSubstituted, HoldsSolution, RefusesReduce, RefusesDivide, RefusesSubstitute, RefusesSolve, by_reduce, by_divide, by_substitute}
-use Rattle.rb_factor.specs.Laws.{NumbersLie, FactorsLie, AreWithin, EnclosesFactors, EnclosesReduced, EnclosesDivided, EnclosesSubstituted, EnclosesSolution}
+use Rattle.rb_factor.specs.Laws.{NumbersLie, FactorsLie, EnclosesFactors, EnclosesReduced, EnclosesDivided, EnclosesSubstituted, EnclosesSolution}
 use Rattle.rb_factor.specs.Sweeps.{entry_at, factor_of, reduce_of, divide_of, substitute_of}
 use Rattle.rb_factor.proofs.Refusals.{divisor_told}
 use Rattle.rb_factor.proofs.Paths.{regular, listed_on}

@@ -1,18 +1,15 @@
 -- The elimination of the packed table is that of the columns from the last on.
-use Rattle.std.proofs.Common.{◌≡◌, ◌≢◌, ◌⊎◌, inl, inr, ℕ, zero, suc, ◌+◌, ◌-◌, ◌<◌, ◌≤◌, List, length, Result, Ok, Err, refl, ap, sym, ◌∙◌, subst, arith}
-use Rattle.rb_result.specs.Steps.{◌>>=◌}
+use Rattle.std.proofs.Common.{◌≡◌, ◌≢◌, inl, inr, ℕ, zero, suc, ◌<◌, ◌≤◌, List, length, Result, Ok, Err, ap, sym, ◌∙◌, subst, arith}
 use Rattle.rb_result.proofs.Results.{then-ok, then-err}
 use Rattle.rb_num.specs.declared.interval.NumFault.{NumFault}
-use Rattle.rb_num.specs.declared.interval.NumFault.TheVariants as N
 use Rattle.rb_num.specs.Interval.{Interval}
 use Rattle.rb_num.specs.Refusing.{iv_div}
 use Rattle.rb_num.specs.Quotient.{HasZero}
 use Rattle.rb_work.specs.declared.names.NameKind.TheVariants as K
 use Rattle.rb_work.specs.declared.names.RowFault.{RowFault}
-use Rattle.rb_work.specs.declared.names.RowFault.TheVariants.{Size, Pivot}
-use Rattle.rb_work.specs.Names.{one, two, pivot_as}
+use Rattle.rb_work.specs.Names.{one, pivot_as}
 use Rattle.rb_work.specs.Path.{above, Ascends, IsOn}
-use Rattle.rb_work.proofs.PathLaws.{on_self, on_most}
+use Rattle.rb_work.proofs.PathLaws.{on_self}
 use Rattle.rb_elimination.specs.Paths.{IsColumn, IsAncestor}
 use Rattle.rb_elimination.specs.Paths as P
 use Rattle.rb_elimination.specs.Factors.{AreFactors}

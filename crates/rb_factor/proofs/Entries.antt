@@ -1,6 +1,6 @@
 -- What a packed table and a list of columns tell once a value is put there.
-use Rattle.std.proofs.Common.{◌≡◌, ◌≢◌, ℕ, ◌+◌, ◌<◌, ◌≤◌, List, length, slice_set, refl, ◌∙◌, arith, get_or-set_other, get_or-set_same, length-set}
-use Rattle.rb_num.specs.Interval.{Interval, zero_interval}
+use Rattle.std.proofs.Common.{◌≡◌, ◌≢◌, ℕ, ◌+◌, ◌<◌, ◌≤◌, List, length, slice_set, refl, arith, get_or-set_other, get_or-set_same, length-set}
+use Rattle.rb_num.specs.Interval.{Interval}
 use Rattle.rb_work.specs.Path.{Ascends, IsOn, packed_length, packed_place}
 use Rattle.rb_work.proofs.PathLaws.{place_within, same_place}
 use Rattle.rb_factor.specs.Sweeps.{entry_at, number_at}

@@ -1,26 +1,23 @@
 -- What the passes over the packed table leave, and what is refused.
-use Rattle.std.proofs.Common.{◌≡◌, ◌≢◌, ◌⊎◌, inl, inr, ℕ, zero, suc, ◌+◌, ◌<◌, ◌≤◌, List, length, slice_set, Result, Ok, Err, refl, ap, sym, ◌∙◌, subst, arith}
+use Rattle.std.proofs.Common.{◌≡◌, ◌≢◌, ◌⊎◌, inl, inr, ℕ, ◌<◌, ◌≤◌, List, length, slice_set, Result, Ok, Err, refl, ap, sym, ◌∙◌, subst, arith}
 use Rattle.rb_result.specs.Steps.{◌>>=◌}
 use Rattle.rb_result.proofs.Results.{same_ok, then-ok, then-err, told-ok, told-err, not-both}
 use Rattle.rb_num.specs.declared.interval.NumFault.{NumFault}
 use Rattle.rb_num.specs.declared.interval.NumFault.TheVariants as N
 use Rattle.rb_num.specs.Interval.{Interval, negative_of}
 use Rattle.rb_num.specs.Refusing.{iv_div}
-use Rattle.rb_num.specs.Quotient.{HasZero}
-use Rattle.rb_sweep.specs.Sweep.{sweep, downward}
 use Rattle.rb_work.specs.declared.names.NameKind.TheVariants as K
-use Rattle.rb_work.specs.declared.names.Name.{Name}
 use Rattle.rb_work.specs.declared.names.RowFault.{RowFault}
-use Rattle.rb_work.specs.declared.names.RowFault.TheVariants.{Size, Pivot}
-use Rattle.rb_work.specs.Names.{one, two, named_as, pivot_as}
-use Rattle.rb_work.specs.Path.{above, Ascends, path, IsOn, packed_place}
-use Rattle.rb_work.proofs.PathLaws.{above_below, on_above, on_self, on_least, on_most}
+use Rattle.rb_work.specs.declared.names.RowFault.TheVariants.{Size}
+use Rattle.rb_work.specs.Names.{two, named_as}
+use Rattle.rb_work.specs.Path.{above, Ascends, IsOn, packed_place}
+use Rattle.rb_work.proofs.PathLaws.{above_below, on_above, on_most}
 use Rattle.rb_factor.specs.Steps.{with_product, lessened}
-use Rattle.rb_factor.specs.Sweeps.{entry_at, update_step, updates_of, entry_step, entries_of, column_step, factor_of}
-use Rattle.rb_factor.proofs.Refusals.{product_size, quotient_size, pivot_told, pivot_refused, made, not_made}
+use Rattle.rb_factor.specs.Sweeps.{entry_at, update_step, updates_of, entry_step, entries_of}
+use Rattle.rb_factor.proofs.Refusals.{product_size, made, not_made}
 use Rattle.rb_factor.proofs.Entries.{Fits, put_same, put_other, put_fits}
 use Rattle.rb_factor.proofs.Paths.{on_trans}
-use Rattle.rb_factor.proofs.PathSweeps.{Apart, Stop, keeps, all_done, stopped}
+use Rattle.rb_factor.proofs.PathSweeps.{Apart, keeps, all_done, stopped}
 
 module _ (up : List ℕ) (ascends : Ascends up) where
   -- what stands at a pair stays

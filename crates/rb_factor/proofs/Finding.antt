@@ -1,17 +1,16 @@
 -- What the quotients by the pivots and the last step of a solution leave, and what is refused.
-use Rattle.std.proofs.Common.{◌≡◌, ◌≢◌, ◌⊎◌, inl, inr, ℕ, zero, suc, ◌+◌, ◌-◌, ◌<◌, ◌≤◌, List, length, slice_set, Result, Ok, Err, refl, ap, sym, ◌∙◌, subst, arith}
+use Rattle.std.proofs.Common.{◌≡◌, ◌≢◌, ◌⊎◌, inl, inr, ℕ, zero, suc, ◌<◌, ◌≤◌, List, length, slice_set, Result, Ok, Err, refl, ap, sym, ◌∙◌, subst, arith}
 use Rattle.std.proofs.lemmas.Bool.{cases_lt}
 use Rattle.rb_num.specs.declared.interval.NumFault.{NumFault}
 use Rattle.rb_num.specs.declared.interval.NumFault.TheVariants as N
 use Rattle.rb_num.specs.Interval.{Interval, zero_interval, negative_of}
 use Rattle.rb_num.specs.Refusing.{iv_div}
 use Rattle.rb_num.specs.Quotient.{HasZero}
-use Rattle.rb_sweep.specs.Sweep.{sweep}
 use Rattle.rb_work.specs.declared.names.NameKind.TheVariants as K
 use Rattle.rb_work.specs.declared.names.RowFault.{RowFault}
 use Rattle.rb_work.specs.declared.names.RowFault.TheVariants.{Size}
 use Rattle.rb_work.specs.Names.{one}
-use Rattle.rb_work.specs.Path.{above, Ascends, path, IsOn}
+use Rattle.rb_work.specs.Path.{above, Ascends}
 use Rattle.rb_elimination.specs.Paths.{IsColumn, IsAncestor}
 use Rattle.rb_elimination.specs.Solving.{IsDivided, IsSubstituted}
 use Rattle.rb_factor.specs.Steps.{lessened, interval_steps, AreDivisors}

@@ -1,8 +1,7 @@
 -- There is one answer of the factors: the same factors or the same refusal, and not both.
-use Rattle.std.proofs.Common.{◌≡◌, ◌⊎◌, inl, inr, ℕ, zero, suc, ◌+◌, ◌-◌, ◌<◌, ◌≤◌, Result, Ok, Err, refl, ap, sym, ◌∙◌, subst, arith}
+use Rattle.std.proofs.Common.{◌≡◌, inl, inr, ℕ, zero, suc, ◌+◌, ◌-◌, ◌<◌, ◌≤◌, Ok, refl, ap, sym, ◌∙◌, subst, arith}
 use Rattle.std.proofs.lemmas.Bool.{cases_lt}
 use Rattle.rb_result.proofs.Results.{same_ok, not-both}
-use Rattle.rb_num.specs.declared.interval.NumFault.{NumFault}
 use Rattle.rb_num.specs.declared.interval.NumFault.TheVariants as N
 use Rattle.rb_num.specs.Interval.{Interval}
 use Rattle.rb_num.specs.Refusing.{iv_div}

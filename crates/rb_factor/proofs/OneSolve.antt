@@ -1,8 +1,7 @@
 -- There is one answer of a solution: the same numbers or the same refusal, and not both.
-use Rattle.std.proofs.Common.{◌≡◌, ◌⊎◌, inl, inr, ℕ, zero, suc, ◌+◌, ◌-◌, ◌<◌, ◌≤◌, Result, Ok, Err, refl, ap, sym, ◌∙◌, subst, arith}
+use Rattle.std.proofs.Common.{◌≡◌, inl, inr, ℕ, zero, suc, ◌+◌, ◌-◌, ◌<◌, ◌≤◌, Ok, Err, refl, ap, sym, ◌∙◌, subst, arith}
 use Rattle.std.proofs.lemmas.Bool.{cases_lt}
 use Rattle.rb_result.proofs.Results.{same_ok, not-both}
-use Rattle.rb_num.specs.declared.interval.NumFault.{NumFault}
 use Rattle.rb_num.specs.declared.interval.NumFault.TheVariants as N
 use Rattle.rb_num.specs.Interval.{Interval}
 use Rattle.rb_num.specs.Refusing.{iv_div}
@@ -10,7 +9,7 @@ use Rattle.rb_work.specs.declared.names.NameKind.TheVariants as K
 use Rattle.rb_work.specs.declared.names.RowFault.{RowFault}
 use Rattle.rb_work.specs.declared.names.RowFault.TheVariants.{Size}
 use Rattle.rb_work.specs.Names.{one}
-use Rattle.rb_elimination.specs.Paths.{IsColumn, IsRegular, IsAncestor, IsOn}
+use Rattle.rb_elimination.specs.Paths.{IsColumn, IsRegular, IsAncestor}
 use Rattle.rb_elimination.specs.Solving.{IsReduced, IsDivided, IsSubstituted, IsFound}
 use Rattle.rb_elimination.proofs.Paths.{is_ancestor, has_above, on_above, above_ancestor, column_of, lower_of}
 use Rattle.rb_elimination.proofs.Related.{reduced_met, substituted_met, found_met}

@@ -1,5 +1,5 @@
 -- Sweeps upward along a path.
-use Rattle.std.proofs.Common.{◌≡◌, ◌⊎◌, inl, inr, ℕ, zero, suc, ◌<◌, ◌≤◌, List, [], ◌∷◌, Result, Ok, Err, refl, ap, sym, ◌∙◌, subst, arith}
+use Rattle.std.proofs.Common.{◌≡◌, ◌⊎◌, inl, inr, ℕ, zero, suc, ◌<◌, ◌≤◌, List, Result, Ok, Err, refl, ap, sym, ◌∙◌, subst, arith}
 use Rattle.rb_result.specs.Steps.{◌>>=◌}
 use Rattle.rb_result.proofs.Results.{same_ok, then-ok, then-err, not-both}
 use Rattle.rb_sweep.specs.Sweep.{sweep}
@@ -184,27 +184,46 @@ module _ {S E : Type 0} (up : List ℕ) (ascends : Ascends up) (step : ℕ → S
         least_of : (d : ℕ) → IsOn up (above up (suc x)) d → 1 ≤ d
         least_of d i = on_least up ascends (above up (suc x)) d i
 
+  climb_more : (a : ℕ) (s u t : S) → step (suc a) s ≡ Ok u → Climb (above up (suc a)) u t → Climb (suc a) s t
+  climb_more a s u t e c = record {
+    at = longer a c.at s u e c.first;
+    first = own_first a c.at s u e c.first;
+    last = rest_same a c.at s u e c.first 0 (omega arith) ∙ c.last;
+    each = λ d i. elim (on_cases up ascends (suc a) d (omega arith) i) [
+      | inl f ↦
+          let g : ℕ → S = longer a c.at s u e c.first in
+          subst (λ b. step b (g b) ≡ Ok (g (above up b))) (sym f) (own_step a c.at s u e c.first)
+      | inr j ↦ further_step a c.at s u e c.first d j (c.each d j)
+    ];
+  }
+
   climbs_within : (n a : ℕ) → a ≤ n → (s t : S) → sweep step (path up a) s ≡ Ok t → Climb a s t
   climbs_within n zero l s t h = record { at = λ d. s; first = refl; last = done_at_root s t h; each = λ d i. absurd (on_none up ascends d i) }
   climbs_within zero (suc a) l s t h = absurd (omega arith)
   climbs_within (suc n) (suc a) l s t h =
       let q = first_ok (suc a) s t (omega arith) h in
       let m : above up (suc a) < suc a = less a in
-      let c : Climb (above up (suc a)) q.0 t = climbs_within n (above up (suc a)) (omega arith) q.0 t q.2 in
-      record {
-        at = longer a c.at s q.0 q.1 c.first;
-        first = own_first a c.at s q.0 q.1 c.first;
-        last = rest_same a c.at s q.0 q.1 c.first 0 (omega arith) ∙ c.last;
-        each = λ d i. elim (on_cases up ascends (suc a) d (omega arith) i) [
-          | inl f ↦
-              let g : ℕ → S = longer a c.at s q.0 q.1 c.first in
-              subst (λ b. step b (g b) ≡ Ok (g (above up b))) (sym f) (own_step a c.at s q.0 q.1 c.first)
-          | inr j ↦ further_step a c.at s q.0 q.1 c.first d j (c.each d j)
-        ];
-      }
+      climb_more a s q.0 t q.1 (climbs_within n (above up (suc a)) (omega arith) q.0 t q.2)
 
   pub climbs : (a : ℕ) (s t : S) → sweep step (path up a) s ≡ Ok t → Climb a s t
   climbs a s t h = climbs_within a a (omega arith) s t h
+
+  halt_more : (a : ℕ) (s u : S) (e : E) → step (suc a) s ≡ Ok u → Halt (above up (suc a)) u e → Halt (suc a) s e
+  halt_more a s u e k c =
+      let near : c.stop ≤ above up (suc a) = on_most up ascends (above up (suc a)) c.stop c.on in
+      record {
+        at = longer a c.at s u k c.first;
+        first = own_first a c.at s u k c.first;
+        stop = c.stop;
+        on = on_above up ascends (suc a) c.stop (omega arith) c.on;
+        nearer = λ b i g. elim (on_cases up ascends (suc a) b (omega arith) i) [
+          | inl f ↦
+              let h : ℕ → S = longer a c.at s u k c.first in
+              subst (λ b. step b (h b) ≡ Ok (h (above up b))) (sym f) (own_step a c.at s u k c.first)
+          | inr j ↦ further_step a c.at s u k c.first b j (c.nearer b j g)
+        ];
+        refused = ap (step c.stop) (rest_same a c.at s u k c.first c.stop near) ∙ c.refused;
+      }
 
   halts_within : (n a : ℕ) → a ≤ n → (s : S) (e : E) → sweep step (path up a) s ≡ Err e → Halt a s e
   halts_within n zero l s e h = absurd (never_at_root s e h)
@@ -220,22 +239,7 @@ module _ {S E : Type 0} (up : List ℕ) (ascends : Ascends up) (step : ℕ → S
           nearer = λ b i g. let most : b ≤ suc a = on_most up ascends (suc a) b i in absurd (omega arith);
           refused = r;
         }
-        | inr q ↦
-            let c : Halt (above up (suc a)) q.0 e = halts_within n (above up (suc a)) (omega arith) q.0 e q.2 in
-            let near : c.stop ≤ above up (suc a) = on_most up ascends (above up (suc a)) c.stop c.on in
-            record {
-              at = longer a c.at s q.0 q.1 c.first;
-              first = own_first a c.at s q.0 q.1 c.first;
-              stop = c.stop;
-              on = on_above up ascends (suc a) c.stop (omega arith) c.on;
-              nearer = λ b i g. elim (on_cases up ascends (suc a) b (omega arith) i) [
-                | inl f ↦
-                    let k : ℕ → S = longer a c.at s q.0 q.1 c.first in
-                    subst (λ b. step b (k b) ≡ Ok (k (above up b))) (sym f) (own_step a c.at s q.0 q.1 c.first)
-                | inr j ↦ further_step a c.at s q.0 q.1 c.first b j (c.nearer b j g)
-              ];
-              refused = ap (step c.stop) (rest_same a c.at s q.0 q.1 c.first c.stop near) ∙ c.refused;
-            }
+        | inr q ↦ halt_more a s q.0 e q.1 (halts_within n (above up (suc a)) (omega arith) q.0 e q.2)
       ]
 
   pub halts : (a : ℕ) (s : S) (e : E) → sweep step (path up a) s ≡ Err e → Halt a s e

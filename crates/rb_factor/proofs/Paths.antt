@@ -1,8 +1,8 @@
 -- The path of a column as a list, and its ancestors.
-use Rattle.std.proofs.Common.{◌≡◌, ◌⊎◌, inl, inr, ℕ, zero, suc, ◌<◌, ◌≤◌, List, ◌∷◌, length, refl, sym, subst, arith}
+use Rattle.std.proofs.Common.{◌≡◌, ◌⊎◌, inl, inr, ℕ, zero, suc, ◌<◌, ◌≤◌, List, length, sym, subst, arith}
 use Rattle.std.proofs.lemmas.Bool.{cases_lt}
 use Rattle.rb_sweep.specs.Sweep.{Among}
-use Rattle.rb_work.specs.Path.{above, Ascends, path, IsOn}
+use Rattle.rb_work.specs.Path.{above, Ascends, IsOn}
 use Rattle.rb_work.proofs.PathLaws.{path_next, path_done, above_below, on_self, on_above, on_next, on_least, on_most}
 use Rattle.rb_elimination.specs.Paths.{IsColumn, IsRegular, IsAncestor}
 use Rattle.rb_elimination.specs.Paths as P

@@ -1,5 +1,5 @@
 -- What the first step of a solution leaves, and what is refused.
-use Rattle.std.proofs.Common.{◌≡◌, ◌≢◌, inl, inr, ℕ, zero, suc, ◌+◌, ◌-◌, ◌<◌, ◌≤◌, List, length, slice_set, Result, Ok, Err, refl, ap, sym, ◌∙◌, subst, arith}
+use Rattle.std.proofs.Common.{◌≡◌, ◌≢◌, ℕ, suc, ◌-◌, ◌<◌, ◌≤◌, List, length, slice_set, Result, Ok, Err, refl, ap, sym, ◌∙◌, subst, arith}
 use Rattle.rb_num.specs.declared.interval.NumFault.{NumFault}
 use Rattle.rb_num.specs.declared.interval.NumFault.TheVariants as N
 use Rattle.rb_num.specs.Interval.{Interval, negative_of}
@@ -8,7 +8,6 @@ use Rattle.rb_work.specs.declared.names.RowFault.{RowFault}
 use Rattle.rb_work.specs.declared.names.RowFault.TheVariants.{Size}
 use Rattle.rb_work.specs.Names.{one}
 use Rattle.rb_work.specs.Path.{above, Ascends, IsOn}
-use Rattle.rb_work.proofs.PathLaws.{on_most}
 use Rattle.rb_elimination.specs.Paths.{IsColumn, IsAncestor}
 use Rattle.rb_elimination.specs.Solving.{IsReduced}
 use Rattle.rb_factor.specs.Steps.{lessened, interval_steps}

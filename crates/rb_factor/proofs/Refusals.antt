@@ -1,7 +1,7 @@
 -- What steps under names tell, where they answer and where they are refused.
 use Rattle.std.proofs.Common.{◌≡◌, Bool, true, false, cond, Result, Ok, Err, inl, inr, refl}
 use Rattle.rb_result.specs.Steps.{◌>>=◌}
-use Rattle.rb_result.proofs.Results.{same_ok, same_err, then-ok, then-err, told-ok, told-err, unless-ok, unless-err, not-both}
+use Rattle.rb_result.proofs.Results.{same_ok, then-ok, then-err, told-ok, told-err, unless-ok, unless-err, not-both}
 use Rattle.rb_num.specs.declared.interval.NumFault.{NumFault}
 use Rattle.rb_num.specs.declared.interval.NumFault.TheVariants as N
 use Rattle.rb_num.specs.Interval.{Interval}

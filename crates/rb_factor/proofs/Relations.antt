@@ -1,19 +1,18 @@
 -- The steps over intervals keep equality, and that fractions lie in intervals.
-use Rattle.std.proofs.Common.{◌≡◌, ℤ, pos, ◌*ℤ◌, ◌≤ℤ◌, arith, List, [], ◌∷◌, Result, Ok, refl, sym, ap, ap₂, ◌∙◌, subst}
+use Rattle.std.proofs.Common.{◌≡◌, pos, ◌*ℤ◌, ◌≤ℤ◌, arith, List, [], ◌∷◌, Ok, refl, sym, ◌∙◌, subst}
 use Rattle.std.proofs.lemmas.Int.{ints}
 use Rattle.std.proofs.lemmas.Result.{IfOk-at_ok}
 use Rattle.rb_frac.specs.Frac as F
 use Rattle.rb_frac.specs.Frac.{Frac, Same, fracs}
-use Rattle.rb_frac.specs.Pairs.{dot, PairsRelate}
+use Rattle.rb_frac.specs.Pairs.{dot}
 use Rattle.rb_frac.proofs.Reduce.{same_sym, same_trans}
 use Rattle.rb_frac.proofs.Ring.{expr, var, plus, minus, times}
 use Rattle.rb_frac.proofs.Vec.{nth}
 use Rattle.rb_frac.proofs.Hom.{frac_ring}
 use Rattle.rb_result.proofs.Results.{same_ok}
 use Rattle.rb_num.specs.Interval.{Interval, one_interval, negative_of, grid}
-use Rattle.rb_num.specs.Dot.{iv_dot, dot_of}
 use Rattle.rb_num.specs.Refusing.{iv_div}
-use Rattle.rb_num.specs.Quotient.{quotient_of, HasZero}
+use Rattle.rb_num.specs.Quotient.{HasZero}
 use Rattle.rb_num.specs.Fraction.{LiesIn}
 use Rattle.rb_num.proofs.Bridges.{one_lies, to_intervals, ok_met}
 use Rattle.rb_num.proofs.Relates.{dot_met}

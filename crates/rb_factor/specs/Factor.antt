@@ -1,5 +1,5 @@
 -- What a factored table of intervals is, and what is refused first. Featherstone, Rigid Body Dynamics Algorithms, chapter 6.
-use Rattle.std.specs.Prelude.{◌≡◌, ℕ, suc, ◌<◌, ◌≤◌, Result, Ok, Err}
+use Rattle.std.specs.Prelude.{◌≡◌, ℕ, suc, ◌<◌, ◌≤◌, Ok, Err}
 use Rattle.rb_num.specs.Interval.{Interval}
 use Rattle.rb_num.specs.Refusing.{iv_div}
 use Rattle.rb_num.specs.Quotient.{HasZero}

@@ -1,5 +1,5 @@
 -- What the three steps of a solution by factors over intervals leave, and what is refused first. Featherstone, Rigid Body Dynamics Algorithms, chapter 6.
-use Rattle.std.specs.Prelude.{◌≡◌, ℕ, suc, ◌<◌, ◌≤◌, Result, Ok, Err}
+use Rattle.std.specs.Prelude.{◌≡◌, ℕ, suc, ◌<◌, ◌≤◌, Ok, Err}
 use Rattle.rb_num.specs.Interval.{Interval}
 use Rattle.rb_num.specs.Refusing.{iv_div}
 use Rattle.rb_num.specs.declared.interval.NumFault.TheVariants as N

@@ -1,4 +1,4 @@
-use Rattle.std.proofs.Common.{◌≡◌, ◌<◌, ◌≤◌, length}
+use Rattle.std.proofs.Common.{◌≡◌, ◌<◌, ◌≤◌}
 use Rattle.rb_sweep.specs.Sweep.{sweep}
 use Rattle.rb_work.specs.Path.{IsOn, path}
 use Rattle.rb_factor.specs.Sweeps.{entry_step, entries_of}
