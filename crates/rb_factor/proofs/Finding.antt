@@ -116,6 +116,15 @@ module _ (up : List ℕ) (ascends : Ascends up) (table : List Interval) where
     unfolding part_step
     part_step_is numbers c d part = refl
 
+    part_done : (numbers : List Interval) (c d : ℕ) (part left : Interval) → part_step up table numbers c d part ≡ Ok left
+        → lessened part (entry_at up table c d) (number_at numbers d) ≡ Ok left
+    part_done numbers c d part left h = sym (part_step_is numbers c d part) ∙ h
+
+    part_refused : (numbers : List Interval) (c d : ℕ) (part : Interval) (f : NumFault) → part_step up table numbers c d part ≡ Err f
+        → lessened part (entry_at up table c d) (number_at numbers d) ≡ Err N.Size
+    part_refused numbers c d part f h =
+        product_size part (negative_of (entry_at up table c d)) (number_at numbers d) f (sym (part_step_is numbers c d part) ∙ h)
+
     module _ (n : ℕ) (most : n ≤ length up) (s t : List Interval) (a : Ascent (substitute_step up table quotients) n s t) (fit : Holds up s) where
       chain : (c : ℕ) → c < n → (own : ℕ → Interval) × Chain (number_at t) (suc c) own
       chain c l =
@@ -131,7 +140,7 @@ module _ (up : List ℕ) (ascends : Ascends up) (table : List Interval) where
                   let less : d < suc c = ancestor_less up ascends (suc c) d from i in
                   ap (λ x. lessened (k.at d) (entry_at up table (suc c) d) x)
                   (sym (later up ascends (substitute_step up table quotients) (λ c u. part_of up table quotients u c) substitute_puts n most s t a fit d c (omega arith) (omega arith)))
-                  ∙ sym (part_step_is (a.at c) (suc c) d (k.at d)) ∙ k.each d (listed_ancestor up ascends (suc c) d from i);
+                  ∙ part_done (a.at c) (suc c) d (k.at d) (k.at (above up d)) (k.each d (listed_ancestor up ascends (suc c) d from i));
             },
           )
 
@@ -186,9 +195,7 @@ module _ (up : List ℕ) (ascends : Ascends up) (table : List Interval) where
           ancestor = w.stop;
           is_ancestor = ancestor_listed up ascends (suc q.before) w.stop from w.on;
           nearer = λ b i m.
-              sym (part_step_is q.reached (suc q.before) b (w.at b)) ∙ w.nearer b (listed_ancestor up ascends (suc q.before) b from i) m;
-          refused =
-              product_size (w.at w.stop) (negative_of (entry_at up table (suc q.before) w.stop)) (number_at q.reached w.stop) r.0
-              (sym (part_step_is q.reached (suc q.before) w.stop (w.at w.stop)) ∙ w.refused);
+              part_done q.reached (suc q.before) b (w.at b) (w.at (above up b)) (w.nearer b (listed_ancestor up ascends (suc q.before) b from i) m);
+          refused = part_refused q.reached (suc q.before) w.stop (w.at w.stop) r.0 w.refused;
           named = sym r.2;
         }
