@@ -10,8 +10,7 @@ use Rattle.rb_work.specs.declared.names.RowFault.TheVariants.{Size, Pivot}
 use Rattle.rb_work.specs.Names.{one, two}
 use Rattle.rb_work.specs.Path.{above}
 use Rattle.rb_work.specs.View.{View, columns_of, M_at, L_at, D_at}
-use Rattle.rb_elimination.specs.Paths.{IsAncestor, IsOn}
-use Rattle.rb_elimination.specs.Paths as P
+use Rattle.rb_elimination.specs.Paths.{IsColumn, IsAncestor, IsOn}
 use Rattle.rb_elimination.specs.Factors.{AreFactors}
 use Rattle.rb_factor.specs.Steps.{lessened, interval_steps, AreDivisors}
 
@@ -37,7 +36,7 @@ pub record Eliminates (up : ℕ → ℕ) (c : ℕ) (table left : ℕ → ℕ →
 
 -- the columns above number k are eliminated, from the last on: table c is what is left when the columns 1 to c are still there
 pub record AreFactorsAbove (k n : ℕ) (up : ℕ → ℕ) (given : ℕ → ℕ → Interval) (table : ℕ → ℕ → ℕ → Interval) (L : ℕ → ℕ → Interval) (D : ℕ → Interval) : Type 0 where
-  pub first : (c d : ℕ) → P.IsColumn n c → IsOn up c d → table n c d ≡ given c d
+  pub first : (c d : ℕ) → IsColumn n c → IsOn up c d → table n c d ≡ given c d
   pub each : (c : ℕ) → k ≤ c → c < n → Eliminates up (suc c) (table (suc c)) (table c) L D
 
 -- in the row of column c the entry of its ancestor d is divided by the pivot, and the entries of row d are lessened
@@ -61,7 +60,7 @@ pub data IsColumnRefused (up : ℕ → ℕ) (c : ℕ) (table : ℕ → ℕ → I
 -- the columns from the last on are eliminated up to one that is refused
 pub record IsFactorRefused (n : ℕ) (up : ℕ → ℕ) (given : ℕ → ℕ → Interval) (e : RowFault) : Type 0 where
   pub column : ℕ
-  pub there : P.IsColumn n column
+  pub there : IsColumn n column
   pub table : ℕ → ℕ → ℕ → Interval
   pub L : ℕ → ℕ → Interval
   pub D : ℕ → Interval
