@@ -1,0 +1,11 @@
+//! The mass table of a tree of rigid bodies in intervals: the composite rigid body algorithm (Featherstone, Rigid Body Dynamics Algorithms,
+//! chapter 6).
+#![tactic(auto)]
+
+mod columns;
+mod entries;
+mod inertias;
+mod masses;
+mod row;
+
+pub use row::{composite, crba};
