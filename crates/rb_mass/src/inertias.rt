@@ -26,7 +26,7 @@ fn borne(j: u32, total: &Inertia6, work: &Work) -> Result<Inertia6, NumFault>
 }
 
 // The inertia of a body, with its children's.
-#[tactic(auto, unfolding(crate::specs::Inertias::add_child), using(rb_sweep::proofs::SweepSteps::sweeps_down))]
+#[tactic(auto, using(rb_sweep::proofs::SweepSteps::sweeps_down, crate::proofs::Ways::children))]
 fn inertia_at(robot: &Robot, i: u32, work: &Work) -> Result<Inertia6, NumFault>
     requires room { work.now.bodies ≡ length robot.now.bodies }
     requires there { HasBody robot.now i }

@@ -1,6 +1,6 @@
 //! The mass table: the entries of pairs of joint columns, gathered by the columns that these are or follow.
 
-ghost use Rattle.std.specs.Prelude.{◌≡◌, ◌+◌, ◌≤◌, ◌||◌, length, IfErr};
+ghost use Rattle.std.specs.Prelude.{◌≡◌, ◌+◌, ◌≤◌, ◌==◌, ◌||◌, length, IfErr};
 ghost use Rattle.rb_num.specs.Interval.{zero_interval};
 ghost use Rattle.rb_sweep.specs.Sweep.{Answers, sweep, upward};
 ghost use Rattle.rb_flat.specs.Dynamics.{follows};
@@ -10,7 +10,7 @@ ghost use Rattle.rb_tree.specs.Numbers.{mimic_at};
 ghost use Rattle.rb_tree.specs.Shape.{master_of};
 ghost use Rattle.rb_tree.specs.Robot.{HasBody, HasColumn};
 ghost use Rattle.rb_mass.specs.Entries.{HasJointColumn};
-ghost use Rattle.rb_mass.specs.Table.{is_led as is_led_of, multiplier_at, pair_adds, is_pair as is_pair_of, add_pair, add_body, add_column, add_joint, ups_of};
+ghost use Rattle.rb_mass.specs.Table.{is_led as is_led_of, multiplier_at, pair_adds, is_pair as is_pair_of, add_pair, add_body, add_column, add_joint, ups_of, column_of};
 ghost use Rattle.rb_mass.specs.Steps.{parents_of, pair_step, mass_step, masses_of};
 
 use crate::columns::{JointColumn, column_number, full_number, joint_columns, met_columns};
@@ -186,8 +186,16 @@ fn on_the_way(
     Ok(sum)
 }
 
+// Whether a joint column is or follows c or d.
+fn is_sought(robot: &Robot, sought: Sought, of: JointColumn) -> bool
+    requires { HasJointColumn robot.now of.body of.k }
+    ensures { result ≡ (column_of robot.now.bodies of.body of.k == sought.c || column_of robot.now.bodies of.body of.k == sought.d) }
+{
+    let column = column_number(robot, of);
+    column == sought.c || column == sought.d
+}
+
 // One more joint column, if it is or follows c or d.
-#[tactic(auto, unfolding(crate::specs::Table::add_column))]
 fn with_column(
     robot: &Robot,
     sought: Sought,
@@ -201,8 +209,8 @@ fn with_column(
     ensures exact { result ≡ add_column robot.now work.now sought.c sought.d of.body of.k sum }
     ensures size { IfErr result (λ e. e ≡ NumFault.Size) }
 {
-    let column = column_number(robot, of);
-    if column == sought.c || column == sought.d {
+    let _tree = robot.bodies();
+    if is_sought(robot, sought, of) {
         on_the_way(robot, sought, of, sum, work)
     } else {
         Ok(sum)
