@@ -10,7 +10,7 @@ use Rattle.rb_work.proofs.PlaceLaws.{Inside, Call, IsCall, ordered}
 use Rattle.rb_work.proofs.Sizes.{sizes_of, sizes_for}
 use Rattle.rb_sweep.specs.Naming.{run}
 
-none : Rule
+abbrev none : Rule
 none n w = Err (Size (one K.I 0))
 
 module _ (e : Extent) (ascends : Ascends e.up) where

@@ -1,5 +1,5 @@
 -- The sweeps are runs over the names.
-use Rattle.std.proofs.Common.{◌≡◌, ℕ, zero, suc, ◌+◌, ◌-◌, ◌<◌, ◌≤◌, ◌==◌, if◌then◌else◌, List, [], ◌∷◌, ◌++◌, length, flat_map, slice_get, Bool, true, false, Option, None, Some, Result, Ok, Err, inl, inr, refl, ap, sym, ◌∙◌, subst, arith}
+use Rattle.std.proofs.Common.{◌≡◌, ℕ, zero, suc, ◌+◌, ◌-◌, ◌<◌, ◌≤◌, ◌==◌, if◌then◌else◌, List, [], ◌∷◌, ◌++◌, length, flat_map, slice_get, slice_index_or, Bool, true, false, Option, None, Some, Result, Ok, Err, inl, inr, refl, ap, sym, ◌∙◌, subst, arith}
 use Rattle.std.specs.Option.{option_map_or}
 use Rattle.std.proofs.lemmas.List.{append_assoc}
 use Rattle.std.proofs.lemmas.Bool.{cases_lt}
@@ -12,6 +12,7 @@ use Rattle.rb_result.proofs.Results.{same_ok, then-ok}
 use Rattle.rb_sweep.specs.Sweep.{sweep, counting_up, upward, downward}
 use Rattle.rb_sweep.specs.Naming.{Naming, run}
 use Rattle.rb_sweep.proofs.Climbing.{then_same, run_append, run_upward, run_downward}
+use Rattle.rb_sweep.proofs.SweepSteps.{upward_done, sweep_done}
 use Rattle.rb_spatial.specs.Motions.{apply_dual}
 use Rattle.rb_spatial.specs.Inertias.{times}
 use Rattle.rb_joint.specs.Any.{any_column}
@@ -22,8 +23,9 @@ use Rattle.rb_work.specs.declared.names.RowFault.TheVariants.{Size}
 use Rattle.rb_work.specs.Names.{one, named_as}
 use Rattle.rb_work.specs.Path.{is_on, packed_place}
 use Rattle.rb_work.specs.View.{View, X_at, I_at, full_place}
+use Rattle.rb_work.specs.Zeros.{zero_inertia, zero_place}
 use Rattle.rb_tree.specs.declared.robot.Body.{Body}
-use Rattle.rb_tree.specs.Columns.{column_count, parent_at, full_at, first_full}
+use Rattle.rb_tree.specs.Columns.{column_count, parent_at, full_at, first_full, full_columns}
 use Rattle.rb_tree.specs.Numbers.{joint_at}
 use Rattle.rb_tree.specs.Robot.{Tree, HasBody, AreBodies}
 use Rattle.rb_mass.specs.Entries.{above, met_columns, leave, force, H_rule, carried_rule}
@@ -70,9 +72,6 @@ unfolding force
 force_next tree w i k n = let e : n + 1 ≡ suc n = omega arith in ap (force tree w i k) e
 
 -- ---- steps whose refusals bear a name
-fault : NumFault → Result View NumFault
-fault e = Err e
-
 one_put : (name : _) (r : Result Interval NumFault) (g : Interval → View) (next : View → Result View NumFault) (later : View → Result View RowFault)
     → ((x : Interval) → named_as name (next (g x)) ≡ later (g x)) → named_as name ((r >>= λ x. Ok (g x)) >>= next) ≡ (named_as name r >>= λ x. later (g x))
 one_put name (Ok x) g next later h = h x
@@ -135,15 +134,108 @@ module _ (tree : Tree) (i k : ℕ) where
   work_of s = Ok s.work
 
   -- the steps upward from a body are a run over the names of the pairs that are met
-  way_run : (m n : ℕ) (w : View) (f : Force Interval) → n + m ≡ length tree.bodies → force tree w i k n ≡ Ok f
+  abbrev GoesAlong : ℕ → ℕ → Type 0
+  GoesAlong m n =
+      (w : View) (f : Force Interval) → force tree w i k n ≡ Ok f
       → named_as (one K.H i) (sweep up_step (counting_up n m) (record { force = f; work = w }) >>= work_of) ≡ run (naming tree) (behind n m) w
-  unfolding behind up_step work_of
-  way_run zero n w f h r = let same : n ≡ length tree.bodies = omega arith in sym (last_run w f (ap (force tree w i k) (sym same) ∙ r))
-  way_run (suc m) n w f h r =
-      on_body (entries_on tree.bodies i k (above tree i n) f w) refl
-      ∙ sym (ap (λ ns. run (naming tree) ns w) (append_assoc (entries_met tree i k n) (flat_map (entries_met tree i k) (counting_up (n + 1) m)) (carried i k ∷ []))
-      ∙ run_append (naming tree) (entries_met tree i k n) (behind (n + 1) m) w)
+
+  -- after the entries of the body n steps above
+  on_leave : (m n : ℕ) (w : View) (f : Force Interval) → n + 1 + m ≡ length tree.bodies → GoesAlong m (n + 1) → force tree w i k n ≡ Ok f
+      → (p : Result (Force Interval) NumFault) → leave tree.bodies w (above tree i n) f ≡ p
+      → named_as (one K.H i) ((goes_on p w >>= λ t. sweep up_step (counting_up (n + 1) m) t) >>= work_of) ≡ run (naming tree) (behind (n + 1) m) w
+  on_leave m n w f h later r (Ok g) e = later w g (force_next tree w i k n ∙ ap (λ (q : Result (Force Interval) NumFault). q >>= λ g. leave tree.bodies w (above tree i n) g) r ∙ e)
+  on_leave m n w f h later r (Err d) e =
+      sym (refused_run m (n + 1) w d h (force_next tree w i k n ∙ ap (λ (q : Result (Force Interval) NumFault). q >>= λ g. leave tree.bodies w (above tree i n) g) r ∙ e))
+
+  on_body : (m n : ℕ) (w : View) (f : Force Interval) → n + 1 + m ≡ length tree.bodies → GoesAlong m (n + 1) → force tree w i k n ≡ Ok f
+      → (q : Result View NumFault) → entries_on tree.bodies i k (above tree i n) f w ≡ q
+      → named_as (one K.H i) (((q >>= λ t. goes_on (leave tree.bodies t (above tree i n) f) t) >>= λ t. sweep up_step (counting_up (n + 1) m) t) >>= work_of)
+      ≡ (named_as (one K.H i) q >>= λ t. run (naming tree) (behind (n + 1) m) t)
+  on_body m n w f h later r (Err d) e = refl
+  on_body m n w f h later r (Ok t) e =
+      let keep = entries_keep (above tree i n) (first_full tree.bodies i + k) f (upward 0 (met_columns tree.bodies i k (above tree i n))) w t e in
+      let same : force tree t i k n ≡ force tree w i k n =
+      force_same tree t w i k n (ap (λ xs. slice_index_or xs i zero_inertia) keep.0) (λ j has. ap (λ xs. slice_index_or xs j zero_place) keep.1) in
+      on_leave m n t f h later (same ∙ r) (leave tree.bodies t (above tree i n) f) refl
+
+  way_run : (m n : ℕ) → n + m ≡ length tree.bodies → GoesAlong m n
+  unfolding behind up_step work_of way_step
+  way_run zero n h w f r = let same : n ≡ length tree.bodies = omega arith in sym (last_run w f (ap (force tree w i k) (sym same) ∙ r))
+  way_run (suc m) n h w f r =
+      on_body m n w f (omega arith) (way_run m (n + 1) (omega arith)) r (entries_on tree.bodies i k (above tree i n) f w) refl
+      ∙ ap (λ q. q >>= λ t. run (naming tree) (behind (n + 1) m) t) (entries_run n f (upward 0 (met_columns tree.bodies i k (above tree i n))) w r)
+      ∙ sym (run_append (naming tree) (entries_met tree i k n) (behind (n + 1) m) w)
+      ∙ sym (ap (λ ns. run (naming tree) ns w) (append_assoc (entries_met tree i k n) (flat_map (entries_met tree i k) (counting_up (n + 1) m)) (carried i k ∷ [])))
+
+  module _ (kept : AreBodies tree.bodies) (has : HasBody tree i) where
+    at_world : (s : Way) → way_step tree.bodies i k 0 s ≡ Ok s
+    unfolding way_step leave
+    at_world s =
+        let low = has.from in
+        let none : upward 0 (met_columns tree.bodies i k 0) ≡ [] = upward_done 0 (met_columns tree.bodies i k 0) (omega (arith, none_met tree kept i k low)) in
+        ap (λ ls. sweep (entry_step tree.bodies (first_full tree.bodies i + k) 0 s.force) ls s.work >>= λ w. goes_on (leave tree.bodies w 0 s.force) w) none
+
+    start_run : (w : View) (p : Result (Force Interval) NumFault) → times intervals (I_at w i) (any_column (joint_at tree.bodies i) k) ≡ p
+        → named_as (one K.H i) (p >>= λ f. way_from tree.bodies i k w f) ≡ run (naming tree) (column_names tree i k) w
+    unfolding force behind up_step work_of upward
+    start_run w (Err d) e =
+        let all : length tree.bodies ≡ length tree.bodies - 0 = omega arith in
+        sym (refused_run (length tree.bodies) 0 w d (omega arith) e) ∙ ap (λ m. run (naming tree) (behind 0 m) w) all
+    start_run w (Ok f) e =
+        let all : length tree.bodies ≡ length tree.bodies - 0 = omega arith in
+        let s : Way = record { force = f; work = w } in
+        ap (λ q. named_as (one K.H i) (q >>= work_of)) (sym (walk tree kept (way_step tree.bodies i k) at_world i has.from s has.to))
+        ∙ ap (λ m. named_as (one K.H i) (sweep up_step (counting_up 0 m) s >>= work_of)) (sym all)
+        ∙ way_run (length tree.bodies) 0 (omega arith) w f e
+        ∙ ap (λ m. run (naming tree) (behind 0 m) w) all
+
+    column_run : (w : View) → column_step tree i k w ≡ run (naming tree) (column_names tree i k) w
+    unfolding column_step column_walk
+    column_run w = start_run w (times intervals (I_at w i) (any_column (joint_at tree.bodies i) k)) refl
+
+-- ---- over the bodies and the columns
+module _ (tree : Tree) (kept : AreBodies tree.bodies) where
+  none_behind : (i : ℕ) → length tree.bodies < i → full_at tree.bodies i ≡ 0
+  none_behind zero h = refl
+  none_behind (suc k) h = ap (λ (o : Option Body). option_map_or full_columns o 0) (none_past tree.bodies k (omega arith))
+
+  joint_run : (i : ℕ) (w : View) → 1 ≤ i → joint_step tree i w ≡ run (naming tree) (joint_names tree i) w
+  unfolding joint_step
+  joint_run i w low =
+      elim (cases_lt (length tree.bodies) i) [
+        | inl l ↦
+            let none = none_behind i l in
+            sweep_done (column_step tree i) 0 (full_at tree.bodies i) w (omega (arith, none))
+            ∙ sym (ap (λ ks. run (naming tree) (flat_map (column_names tree i) ks) w) (upward_done 0 (full_at tree.bodies i) (omega (arith, none))))
+        | inr g ↦
+            run_upward (naming tree) (column_step tree i) (column_names tree i) 0 (full_at tree.bodies i)
+            (λ k s from. column_run tree i k kept (record { from = low; to = g }) s) w
+      ]
+
+  pair_run : (c d : ℕ) (w : View) → pair_step tree c d w ≡ run (naming tree) (if is_on (ups_of tree) d c then mass c d ∷ [] else []) w
+  unfolding pair_step
+  pair_run c d w = go (is_on (ups_of tree) d c)
     where
-      on_body : (q : Result View NumFault) → entries_on tree.bodies i k (above tree i n) f w ≡ q
-          → named_as (one K.H i) (sweep up_step (counting_up n (suc m)) (record { force = f; work = w }) >>= work_of) ≡ (run (naming tree) (entries_met tree i k n) w >>= λ t. run (naming tree) (behind (n + 1) m) t)
-      on_body q e = ?
+      go : (b : Bool) → (if b then (M_rule tree c d w >>= λ x. Ok (put tree (mass c d) x w)) else Ok w) ≡ run (naming tree) (if b then mass c d ∷ [] else []) w
+      go true = refl
+      go false = refl
+
+  inertias_run : (w : View) → inertias_of tree w ≡ run (naming tree) (inertia_order tree) w
+  unfolding inertia_step
+  inertias_run w = run_downward (naming tree) (inertia_step tree) (λ i. inertia i ∷ []) 1 (length tree.bodies + 1) (λ i s low. refl) w
+
+  masses_run : (w : View) → masses_of tree w ≡ run (naming tree) (mass_order tree) w
+  unfolding mass_step
+  masses_run w =
+      run_upward (naming tree) (mass_step tree) (mass_names tree) 1 (column_count tree.bodies + 1)
+      (λ c s low. run_upward (naming tree) (pair_step tree c) (λ d. if is_on (ups_of tree) d c then mass c d ∷ [] else []) c (column_count tree.bodies + 1) (λ d t from. pair_run c d t) s) w
+
+  pub sweeps_run : (w : View) → sweeps_of tree w ≡ run (naming tree) (order tree) w
+  sweeps_run w =
+      ap (λ r. r >>= λ s. (entries_of tree s >>= λ t. masses_of tree t)) (inertias_run w)
+      ∙ then_same (run (naming tree) (inertia_order tree) w) _ _
+      (λ s.
+      ap (λ r. r >>= λ t. masses_of tree t) (run_upward (naming tree) (joint_step tree) (joint_names tree) 1 (length tree.bodies + 1) (λ i t low. joint_run i t low) s)
+      ∙ then_same (run (naming tree) (entry_order tree) s) _ _ masses_run
+      ∙ sym (run_append (naming tree) (entry_order tree) (mass_order tree) s))
+      ∙ sym (run_append (naming tree) (inertia_order tree) (entry_order tree ++ mass_order tree) w)
