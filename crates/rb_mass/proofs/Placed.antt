@@ -1,11 +1,12 @@
 -- The laws of one place of a work, and of two, taken from those of calls.
-use Rattle.std.proofs.Common.{◌≡◌, ℕ, ◌+◌, ◌<◌, ◌≤◌, List, [], ◌∷◌, Result, Err, ◌⊎◌, inl, inr, refl, sym, subst, arith}
+use Rattle.std.proofs.Common.{◌≡◌, ◌≢◌, ℕ, ◌+◌, ◌-◌, ◌*◌, ◌<◌, ◌≤◌, List, [], ◌∷◌, Result, Err, ◌⊎◌, inl, inr, refl, sym, subst, arith}
+use Rattle.std.proofs.lemmas.Bool.{cases_lt}
 use Rattle.rb_work.specs.declared.names.NameKind.TheVariants as K
 use Rattle.rb_work.specs.declared.names.RowFault.TheVariants.{Size}
 use Rattle.rb_work.specs.Names.{one}
 use Rattle.rb_work.specs.Path.{Ascends}
 use Rattle.rb_work.specs.View.{Extent, View, blank_of}
-use Rattle.rb_work.specs.Place.{Place, ValueOf, look, put, Rule, names}
+use Rattle.rb_work.specs.Place.{Place, I_of, H_of, packed_of, ValueOf, look, put, Rule, names}
 use Rattle.rb_work.proofs.PlaceLaws.{Inside, Call, IsCall, ordered}
 use Rattle.rb_work.proofs.Sizes.{sizes_of, sizes_for}
 use Rattle.rb_sweep.specs.Naming.{run}
@@ -42,9 +43,6 @@ module _ (e : Extent) (ascends : Ascends e.up) where
   pub look_same : (p : Place) (x : ValueOf p) (w : View) → Inside e p → sizes_of w ≡ sizes_for e → look p (put p x w) ≡ x
   look_same p x w i f = (ordered (only p) (is_only p i)).put_same p x w refl f
 
-  pub put_fits : (p : Place) (x : ValueOf p) (w : View) → Inside e p → sizes_of w ≡ sizes_for e → sizes_of (put p x w) ≡ sizes_for e
-  put_fits p x w i f = (ordered (only p) (is_only p i)).put_fits p x w f
-
   module _ (m q : Place) (rank : Place → ℕ) (l : rank m < rank q) (inside_m : Inside e m) (inside_q : Inside e q) where
     abbrev both : Call
     both = record {
@@ -75,5 +73,20 @@ module _ (e : Extent) (ascends : Ascends e.up) where
       runs = λ w. refl;
     }
 
-    pub look_other : (x : ValueOf q) (w : View) → sizes_of w ≡ sizes_for e → look m (put q x w) ≡ look m w
+    look_other : (x : ValueOf q) (w : View) → sizes_of w ≡ sizes_for e → look m (put q x w) ≡ look m w
     look_other x w f = (ordered both is_both).put_other m q x w (inl refl) (inr refl) f l
+
+  -- of the tables that are written here
+  abbrev pub number : Place → ℕ
+  number (I_of i) = i
+  number (H_of f g) = f * 1000 + g
+  number (packed_of c d) = c * 1000 + d
+  number _ = 0
+
+  pub look_apart : (m q : Place) (x : ValueOf q) (w : View) → number m ≢ number q → number m < 100000 → number q < 100000 → Inside e m → Inside e q
+      → sizes_of w ≡ sizes_for e → look m (put q x w) ≡ look m w
+  look_apart m q x w ne hm hq im iq f =
+      elim (cases_lt (number m) (number q)) [
+        | inl l ↦ look_other m q number l im iq x w f
+        | inr g ↦ look_other m q (λ p. 100000 - number p) (omega arith) im iq x w f
+      ]

@@ -3,10 +3,10 @@ use Rattle.std.proofs.Common.{◌≡◌, ◌≢◌, ℕ, zero, suc, ◌+◌, ◌
 use Rattle.std.specs.List.{list_any}
 use Rattle.std.specs.Option.{option_map_or}
 use Rattle.std.proofs.lemmas.Bool.{cases_lt}
-use Rattle.std.proofs.lemmas.List.{length-map}
+use Rattle.std.proofs.lemmas.List.{length-map, get_or-map}
 use Rattle.rb_result.specs.Steps.{◌>>=◌}
 use Rattle.rb_sweep.specs.Sweep.{sweep, counting_up, upward, downward}
-use Rattle.rb_sweep.proofs.Climbing.{then_same, length-upward}
+use Rattle.rb_sweep.proofs.Climbing.{then_same, length-upward, upward_at}
 use Rattle.rb_sweep.proofs.SweepSteps.{upward_next, upward_done, sweep_refused, sweep_down_refused, sweep_down_done}
 use Rattle.rb_num.specs.Interval.{Interval}
 use Rattle.rb_num.specs.declared.interval.NumFault.{NumFault}
@@ -23,6 +23,7 @@ use Rattle.rb_tree.specs.Numbers.{joint_at}
 use Rattle.rb_tree.specs.Shape.{shape_of}
 use Rattle.rb_tree.specs.Robot.{Tree, HasBody, AreBodies}
 use Rattle.rb_tree.proofs.ColumnLaws.{sum_more}
+use Rattle.rb_tree.proofs.Spans.{up_below}
 use Rattle.rb_composite.specs.Composite.{above as above_in}
 use Rattle.rb_composite.proofs.Paths.{ancestor-here, ancestor-next}
 use Rattle.rb_mass.specs.Inertias.{bear, add_child}
@@ -177,6 +178,17 @@ ups_same tree up are =
 
 pub length_ups : (tree : Tree) → length (ups_of tree) ≡ column_count tree.bodies
 length_ups tree = omega (arith, length-map (upward 1 (column_count tree.bodies + 1)) (up_of tree.bodies), length-upward 1 (column_count tree.bodies + 1))
+
+pub ups_ascend : (tree : Tree) → AreBodies tree.bodies → Ascends (ups_of tree)
+ups_ascend tree kept zero low high = absurd (omega arith)
+ups_ascend tree kept (suc k) low high =
+    let long = length_ups tree in
+    let n = column_count tree.bodies + 1 in
+    let there : slice_index_or (upward 1 n) k 0 ≡ 1 + k = upward_at 1 n k 0 (omega (arith, long, high)) in
+    let up : slice_index_or (ups_of tree) k 0 ≡ up_of tree.bodies (suc k) =
+    get_or-map (up_of tree.bodies) (upward 1 n) k 0 0 (omega (arith, long, high, length-upward 1 n)) ∙ ap (up_of tree.bodies) (there ∙ omega arith) in
+    let below = up_below tree (suc k) (record { from = omega arith; to = omega (arith, long, high) }) kept.parents in
+    omega (arith, up, below)
 
 -- a way on which a body's step is refused
 pub way_refused : (bodies : List Body) (i k a : ℕ) (start : Force Interval) (w : View) (s : Way) (e : NumFault) → AreBodies bodies → 1 ≤ a → way_step bodies i k a s ≡ Err e

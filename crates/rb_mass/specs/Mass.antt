@@ -13,7 +13,7 @@ use Rattle.rb_work.specs.Place.{I_of, H_of, packed_of, put as put_at, names}
 use Rattle.rb_tree.specs.Columns.{column_count, full_count, full_at, first_full}
 use Rattle.rb_tree.specs.Robot.{Tree, HasBody}
 use Rattle.rb_tree.specs.State.{Row}
-use Rattle.rb_tree.specs.Places.{ArePlaces, IsPlaceRefused, rule as place_rule, order as place_order}
+use Rattle.rb_tree.specs.Places.{IsFor, ArePlaces, IsPlaceRefused, rule as place_rule, order as place_order}
 use Rattle.rb_mass.specs.Inertias.{I_rule, AreInertias}
 use Rattle.rb_mass.specs.Entries.{above, met_columns, entry_at, H_rule, carried_rule, AreEntries}
 use Rattle.rb_mass.specs.Table.{ups_of, M_rule, AreMasses}
@@ -125,6 +125,6 @@ SamePlaces tree u w = (i : ℕ) → HasBody tree i → X_at u i ≡ X_at w i
 
 -- there is one answer, whatever a work held but for its places: the same table, or one refusal, and not both
 pub record MassHasOneAnswer (tree : Tree) : Type 0 where
-  pub values : (u w : View) → u.up ≡ w.up → SamePlaces tree u w → AreMass tree u → AreMass tree w → table_in tree u ≡ table_in tree w
+  pub values : (u w : View) → IsFor tree u → IsFor tree w → SamePlaces tree u w → AreMass tree u → AreMass tree w → table_in tree u ≡ table_in tree w
   pub either : (u w : View) (e : RowFault) → SamePlaces tree u w → AreMass tree u → IsMassRefused tree w e → ⊥
   pub refusal : (u w : View) (d e : RowFault) → SamePlaces tree u w → IsMassRefused tree u d → IsMassRefused tree w e → d ≡ e
