@@ -44,11 +44,7 @@ pub(crate) fn motion_along(robot: &Robot, at: JointColumn) -> Motion
 /// The power of a force along it.
 #[inline]
 #[tactic(auto, using(crate::proofs::Ways::full_is))]
-pub(crate) fn power_along(
-    robot: &Robot,
-    at: JointColumn,
-    force: &Force,
-) -> Result<Iv, NumFault>
+pub(crate) fn power_along(robot: &Robot, at: JointColumn, force: &Force) -> Result<Iv, NumFault>
     requires { HasJointColumn robot.now at.body at.k }
     ensures exact { result ≡ joint_power (joint_at robot.now.bodies at.body) at.k force.now }
     ensures size { IfErr result (λ e. e ≡ NumFault.Size) }

@@ -98,12 +98,7 @@ fn at_body(
 
 // The entries of a joint column along the path to the root, from a force on its body.
 #[tactic(auto, using(crate::proofs::Ways::body_paths))]
-fn on_the_way(
-    robot: &Robot,
-    of: JointColumn,
-    start: Force,
-    work: &mut Work,
-) -> Result<(), NumFault>
+fn on_the_way(robot: &Robot, of: JointColumn, start: Force, work: &mut Work) -> Result<(), NumFault>
     requires bodies { work.old.bodies ≡ length robot.now.bodies }
     requires full { work.old.full ≡ full_count robot.now.bodies }
     requires there { HasJointColumn robot.now of.body of.k }

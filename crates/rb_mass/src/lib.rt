@@ -9,3 +9,6 @@ mod masses;
 mod row;
 
 pub use row::{composite, crba};
+
+#[cfg(test)]
+mod tests;

@@ -127,7 +127,10 @@ fn with_pair(
     if !is_pair(robot, sought, pair) {
         return Ok(sum);
     }
-    let entry = work.H(full_number(robot, pair.first), full_number(robot, pair.second));
+    let entry = work.H(
+        full_number(robot, pair.first),
+        full_number(robot, pair.second),
+    );
     sum.add(adds(robot, sought, pair, entry)?)
 }
 
@@ -219,13 +222,7 @@ fn with_column(
 
 // Those of one body.
 #[tactic(auto, unfolding(crate::specs::Table::add_joint), using(rb_sweep::proofs::SweepSteps::sweeps))]
-fn with_joint(
-    robot: &Robot,
-    sought: Sought,
-    i: u32,
-    start: Iv,
-    work: &Work,
-) -> Result<Iv, NumFault>
+fn with_joint(robot: &Robot, sought: Sought, i: u32, start: Iv, work: &Work) -> Result<Iv, NumFault>
     requires room { work.now.full ≡ full_count robot.now.bodies }
     requires there { HasBody robot.now i }
     requires led { sought.led ≡ (is_led_of robot.now.bodies sought.c || is_led_of robot.now.bodies sought.d) }
@@ -273,10 +270,7 @@ fn put_pair(robot: &Robot, c: u32, d: u32, work: &mut Work) -> Result<(), RowFau
     if !work.is_on(d, c) {
         return Ok(());
     }
-    let entry = named(
-        gathered(robot, c, d, work),
-        Name::two(NameKind::M, c, d),
-    )?;
+    let entry = named(gathered(robot, c, d, work), Name::two(NameKind::M, c, d))?;
     work.set_M(c, d, entry);
     Ok(())
 }

@@ -9,7 +9,7 @@ invariant-loop-a l = record {
   upward : l.a ≤ l.of.body;
   others : l.work ≡ record l.fn.work { H = l.work.H };
   rest : sweep (way_step l.robot.bodies l.of.body l.of.k) (path (parents_of l.robot.bodies) l.a) (record { force = l.force; work = l.work })
-  ≡ sweep (way_step l.robot.bodies l.of.body l.of.k) (path (parents_of l.robot.bodies) l.of.body) (record { force = l.fn.start; work = l.fn.work });
+      ≡ sweep (way_step l.robot.bodies l.of.body l.of.k) (path (parents_of l.robot.bodies) l.of.body) (record { force = l.fn.start; work = l.fn.work });
 }
 
 abbrev pub decreases-loop-a : goal.decreases-loop-a

@@ -9,5 +9,5 @@ abbrev pub invariant-loop-l : goal.invariant-loop-l
 invariant-loop-l l = record {
   others : l.work ≡ record l.fn.work { H = l.work.H };
   rest : sweep (entry_step l.robot.bodies (first_full l.robot.bodies l.fn.of.body + l.fn.of.k) l.a l.force) (upward l.l (met_columns l.robot.bodies l.fn.of.body l.fn.of.k l.a)) l.work
-  ≡ entries_on l.robot.bodies l.fn.of.body l.fn.of.k l.a l.force l.fn.work;
+      ≡ entries_on l.robot.bodies l.fn.of.body l.fn.of.k l.a l.force l.fn.work;
 }

@@ -9,7 +9,7 @@ abbrev pub invariant-loop-a : goal.invariant-loop-a
 invariant-loop-a l = record {
   upward : l.a ≤ l.of.body;
   rest : sweep (add_body l.robot.bodies l.work l.sought.c l.sought.d l.of.body l.of.k) (path (parents_of l.robot.bodies) l.a) l.sum
-  ≡ sweep (add_body l.robot.bodies l.work l.sought.c l.sought.d l.of.body l.of.k) (path (parents_of l.robot.bodies) l.of.body) l.fn.start;
+      ≡ sweep (add_body l.robot.bodies l.work l.sought.c l.sought.d l.of.body l.of.k) (path (parents_of l.robot.bodies) l.of.body) l.fn.start;
 }
 
 abbrev pub decreases-loop-a : goal.decreases-loop-a
