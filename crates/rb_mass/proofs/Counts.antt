@@ -104,7 +104,7 @@ module _ (tree : Tree) (kept : AreBodies tree.bodies) where
             absurd (omega (arith, next, q, low))
       ]
 
-  met_once : (i n o : ℕ) → 1 ≤ above tree i n → above tree i n ≡ above tree i o → n ≡ o
+  pub met_once : (i n o : ℕ) → 1 ≤ above tree i n → above tree i n ≡ above tree i o → n ≡ o
   met_once i n o low e =
       elim (cases_lt n o) [
         | inl l ↦ let r = lower i n o l (omega (arith, e, low)) in absurd (omega (arith, r, e))

@@ -5,3 +5,4 @@ pub mod Counts
 pub mod MassPass
 pub mod Told
 pub mod RowTold
+pub mod Plain

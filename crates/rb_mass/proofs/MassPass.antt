@@ -77,7 +77,7 @@ module _ (tree : Tree) (s t : View) (same : (i k n l : ℕ) → HasEntry tree i 
       rw (all _) refl
 
 module _ (tree : Tree) (kept : AreBodies tree.bodies) where
-  reads : (n : Name) (s t : View) → Known tree n → SamePlaces tree s t → ((m : Name) → Known tree m → rank m < rank n → look tree m s ≡ look tree m t) → rule tree n s ≡ rule tree n t
+  pub reads : (n : Name) (s t : View) → Known tree n → SamePlaces tree s t → ((m : Name) → Known tree m → rank m < rank n → look tree m s ≡ look tree m t) → rule tree n s ≡ rule tree n t
   reads (inertia i) s t k g h = let few = kept.few in let to = k.to in I_reads tree i s t g (λ j l has. let high = has.to in h (inertia j) has (omega arith))
   reads (entry i k n l) s t has g h = H_reads tree i k n l s t (h (inertia i) has.column.body (omega arith)) g
   reads (carried i k) s t has g h = carried_reads tree i k s t (h (inertia i) has.body (omega arith)) g

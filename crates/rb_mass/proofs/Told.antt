@@ -22,11 +22,11 @@ use Rattle.rb_tree.proofs.PlacePass as places
 use Rattle.rb_mass.specs.Entries.{HasEntry, HasJointColumn}
 use Rattle.rb_mass.specs.Table.{ups_of, HasPair}
 use Rattle.rb_mass.specs.Steps.{sweeps_of}
-use Rattle.rb_mass.specs.Mass.{Name, inertia, entry, carried, mass, rule, look, order, naming, AreMass, IsMassRefused, table_in, extent_for, mass_of, answer_of, IsRefused, SamePlaces, MassHasOneAnswer}
+use Rattle.rb_mass.specs.Mass.{Name, inertia, entry, carried, mass, ValueOf, rule, look, order, naming, AreMass, IsMassRefused, table_in, extent_for, mass_of, answer_of, IsRefused, SamePlaces, MassHasOneAnswer}
 use Rattle.rb_mass.proofs.Ways.{ups_same, ups_ascend}
 use Rattle.rb_mass.proofs.Runs.{sweeps_run}
 use Rattle.rb_mass.proofs.Counts.{Known, HasRoom}
-use Rattle.rb_mass.proofs.MassPass.{shape, ordered}
+use Rattle.rb_mass.proofs.MassPass.{reads, ordered}
 
 -- a work for the robot has room
 pub room_of : (tree : Tree) (w : View) → IsSized w → IsFor tree w → HasRoom tree (extent_of w)
@@ -34,7 +34,7 @@ room_of tree w sized is = record { bodies = is.bodies; full = is.full; up = ups_
 
 module _ (tree : Tree) where
   -- by names and by the rules of each
-  are_mass : (w : View) → ((m : Name) → Known tree m → rule tree m w ≡ Ok (look tree m w)) → AreMass tree w
+  pub are_mass : (w : View) → ((m : Name) → Known tree m → rule tree m w ≡ Ok (look tree m w)) → AreMass tree w
   are_mass w h = record {
     inertias = record { each_I = λ i has. h (inertia i) has };
     entries = record { each_H = λ i k n l has. h (entry i k n l) has; each_carried = λ i k has. h (carried i k) has };
@@ -47,7 +47,26 @@ module _ (tree : Tree) where
   holds w h (carried i k) has = h.entries.each_carried i k has
   holds w h (mass c d) has = h.masses.each_M c d has
 
+-- a blank work with the places of another
+abbrev pub start : Tree → View → View
+start tree given = record (blank_of (extent_for tree)) { X = given.X }
+
 module _ (tree : Tree) (kept : AreBodies tree.bodies) where
+  -- what is read is the same with other entries
+  still_look : (m : Name) (t : View) (q : List (List Interval)) → look tree m (record t { q = q }) ≡ look tree m t
+  still_look (inertia i) t q = refl
+  still_look (entry i k n l) t q = refl
+  still_look (carried i k) t q = refl
+  still_look (mass c d) t q = refl
+
+  pub still_mass : (t : View) (q : List (List Interval)) → AreMass tree t → AreMass tree (record t { q = q })
+  still_mass t q h =
+      are_mass tree (record t { q = q })
+      (λ m k.
+      reads tree kept m (record t { q = q }) t k (λ i has. refl) (λ n there l. still_look n t q)
+      ∙ holds tree t h m k
+      ∙ ap (λ (x : ValueOf m). Ok x) (sym (still_look m t q)))
+
   -- ---- what a call leaves
   pub mass_found : (w t : View) → IsSized w → IsFor tree w → sweeps_of tree w ≡ Ok t → AreMass tree t
   mass_found w t sized is e =
@@ -60,12 +79,12 @@ module _ (tree : Tree) (kept : AreBodies tree.bodies) where
       let h = refusal _ _ (ordered tree kept (extent_of w) room) w e (room_for w (extent_of w) sized refl) (sym (sweeps_run tree kept w) ∙ r) in
       record {
         values = h.reached;
-        others = sym (ap (λ (u : View). record u { I = h.reached.I; H = h.reached.H; packed = h.reached.packed }) h.keeps);
+        places = λ i has. ap (λ (u : View). X_at u i) h.keeps;
         first = h.first;
       }
 
   -- ---- a blank work for the robot
-  blank_room : HasRoom tree (extent_for tree)
+  pub blank_room : HasRoom tree (extent_for tree)
   blank_room = record { bodies = refl; full = refl; up = refl; ascends = ups_ascend tree kept }
 
   -- ---- one answer
@@ -97,31 +116,23 @@ module _ (tree : Tree) (kept : AreBodies tree.bodies) where
       map_upward_same (λ c. map (mass_at u c) (upward 1 n)) (λ c. map (mass_at w c) (upward 1 n)) 1 n
       (λ c low high. map_upward_same (mass_at u c) (mass_at w c) 1 n (λ d from below. mass_same u w eu ew h c d low (omega arith) from (omega arith)))
 
-  one_table : (u w : View) → IsFor tree u → IsFor tree w → SamePlaces tree u w → AreMass tree u → AreMass tree w → table_in tree u ≡ table_in tree w
-  one_table u w iu iw same hu hw =
-      table_same u w (ups_same tree u.up iu.up) (ups_same tree w.up iw.up) (λ c d has. values_same u w same hu hw (mass c d) has)
-
-  given_same : (given values : View) (i : ℕ) → values ≡ record given { I = values.I; H = values.H; packed = values.packed } → X_at values i ≡ X_at given i
-  given_same given values i e = ap (λ (w : View). X_at w i) e
+  one_table : (u w : View) → u.up ≡ ups_of tree → w.up ≡ ups_of tree → SamePlaces tree u w → AreMass tree u → AreMass tree w → table_in tree u ≡ table_in tree w
+  one_table u w iu iw same hu hw = table_same u w iu iw (λ c d has. values_same u w same hu hw (mass c d) has)
 
   either : (u w : View) (e : RowFault) → SamePlaces tree u w → AreMass tree u → IsMassRefused tree w e → ⊥
   either u w e same hu r =
-      not_both _ _ (ordered tree kept (extent_for tree) blank_room) u r.values e (λ g. same g.0 g.1 ∙ sym (given_same w r.values g.0 r.others)) (holds tree u hu) r.first
+      not_both _ _ (ordered tree kept (extent_for tree) blank_room) u r.values e (λ g. same g.0 g.1 ∙ r.places g.0 g.1) (holds tree u hu) r.first
 
   one_refused : (u w : View) (d e : RowFault) → SamePlaces tree u w → IsMassRefused tree u d → IsMassRefused tree w e → d ≡ e
   one_refused u w d e same q r =
       one_refusal _ _ (ordered tree kept (extent_for tree) blank_room) q.values r.values d e
-      (λ g. given_same u q.values g.0 q.others ∙ same g.0 g.1 ∙ sym (given_same w r.values g.0 r.others)) q.first r.first
+      (λ g. sym (q.places g.0 g.1) ∙ same g.0 g.1 ∙ r.places g.0 g.1) q.first r.first
 
   pub one_answer : MassHasOneAnswer tree
   one_answer = record { values = one_table; either = either; refusal = one_refused }
 
   -- ---- from zeros
-  start : View → View
-  start given = record (blank_of (extent_for tree)) { X = given.X }
-
-  start_fits : (given : View) → length given.X ≡ length tree.bodies + 1 → sizes_of (start given) ≡ sizes_for (extent_for tree)
-  unfolding start
+  pub start_fits : (given : View) → length given.X ≡ length tree.bodies + 1 → sizes_of (start tree given) ≡ sizes_for (extent_for tree)
   start_fits given h =
       ap (λ n. record (sizes_of (blank_of (extent_for tree))) { X = n }) h ∙ ap (λ (z : Sizes). record z { X = length tree.bodies + 1 }) (blank_for (extent_for tree))
 
@@ -129,18 +140,18 @@ module _ (tree : Tree) (kept : AreBodies tree.bodies) where
   table rows = Ok rows
 
   pub answer_is : (given w : View) → length given.X ≡ length tree.bodies + 1 → w.up ≡ ups_of tree → SamePlaces tree given w → AreMass tree w → mass_of tree given ≡ Ok (table_in tree w)
-  unfolding mass_of start table
+  unfolding mass_of table
   answer_is given w long up same h =
-      let r = finds _ _ (ordered tree kept (extent_for tree) blank_room) (start given) w (start_fits given long) (λ g. same g.0 g.1) (holds tree w h) in
+      let r = finds _ _ (ordered tree kept (extent_for tree) blank_room) (start tree given) w (start_fits given long) (λ g. same g.0 g.1) (holds tree w h) in
       let up_kept : r.reached.up ≡ ups_of tree = sym (ap (λ (u : View). u.up) r.keeps) in
       ap (λ x. x >>= λ t. table (table_in tree t)) r.sweeps ∙ ap table (table_same r.reached w up_kept up (λ c d has. r.same (mass c d) has))
 
   pub answer_refused : (given w : View) (e : RowFault) → length given.X ≡ length tree.bodies + 1 → SamePlaces tree given w → IsMassRefused tree w e → mass_of tree given ≡ Err e
-  unfolding mass_of start table
+  unfolding mass_of table
   answer_refused given w e long same r =
       ap (λ x. x >>= λ t. table (table_in tree t))
-      (refuses _ _ (ordered tree kept (extent_for tree) blank_room) (start given) r.values e (start_fits given long)
-      (λ g. same g.0 g.1 ∙ sym (given_same w r.values g.0 r.others)) r.first)
+      (refuses _ _ (ordered tree kept (extent_for tree) blank_room) (start tree given) r.values e (start_fits given long)
+      (λ g. same g.0 g.1 ∙ r.places g.0 g.1) r.first)
 
   pub told_answer : {A : Type 0} (r : Result A RowFault) (given t : View) → length given.X ≡ length tree.bodies + 1 → t.up ≡ ups_of tree → SamePlaces tree given t
       → OnOk r (AreMass tree t) → IfErr r (IsMassRefused tree given) → Answers r (mass_of tree given) (table_in tree t)

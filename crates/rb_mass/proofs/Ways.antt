@@ -46,18 +46,18 @@ past_end [] (suc k) e = refl
 past_end (b ∷ bodies) zero e = absurd cc
 past_end (b ∷ bodies) (suc k) e = ap (λ xs. b ∷ xs) (past_end bodies k e)
 
-sum_next : (bodies : List Body) (k : ℕ) → sum_by full_columns (take (suc k) bodies) ≡ sum_by full_columns (take k bodies) + full_at bodies (suc k)
-sum_next bodies k = next (slice_get bodies k) refl
+pub sum_next : (f : Body → ℕ) (bodies : List Body) (k : ℕ) → sum_by f (take (suc k) bodies) ≡ sum_by f (take k bodies) + option_map_or f (slice_get bodies k) 0
+sum_next f bodies k = next (slice_get bodies k) refl
   where
-    next : (o : Option Body) → slice_get bodies k ≡ o → sum_by full_columns (take (suc k) bodies) ≡ sum_by full_columns (take k bodies) + option_map_or full_columns o 0
-    next None e = ap (sum_by full_columns) (past_end bodies k e) ∙ omega arith
-    next (Some b) e = sum_more full_columns bodies k b e
+    next : (o : Option Body) → slice_get bodies k ≡ o → sum_by f (take (suc k) bodies) ≡ sum_by f (take k bodies) + option_map_or f o 0
+    next None e = ap (sum_by f) (past_end bodies k e) ∙ omega arith
+    next (Some b) e = sum_more f bodies k b e
 
 sum_rises : (bodies : List Body) (i j : ℕ) → i ≤ j → sum_by full_columns (take i bodies) ≤ sum_by full_columns (take j bodies)
 sum_rises bodies i zero h = let e : i ≡ 0 = omega arith in subst (λ (k : ℕ). sum_by full_columns (take k bodies) ≤ sum_by full_columns (take 0 bodies)) (sym e) (omega arith)
 sum_rises bodies i (suc j) h =
     elim (cases_lt i (suc j)) [
-      | inl l ↦ let r : sum_by full_columns (take i bodies) ≤ sum_by full_columns (take j bodies) = sum_rises bodies i j (omega arith) in let n = sum_next bodies j in omega (arith, r, n)
+      | inl l ↦ let r : sum_by full_columns (take i bodies) ≤ sum_by full_columns (take j bodies) = sum_rises bodies i j (omega arith) in let n = sum_next full_columns bodies j in omega (arith, r, n)
       | inr g ↦ let e : i ≡ suc j = omega arith in subst (λ (k : ℕ). sum_by full_columns (take k bodies) ≤ sum_by full_columns (take (suc j) bodies)) (sym e) (omega arith)
     ]
 
@@ -66,7 +66,7 @@ pub full_rises : (bodies : List Body) (a i : ℕ) → 1 ≤ a → a < i → firs
 unfolding start_behind
 full_rises bodies zero i low h = absurd (omega arith)
 full_rises bodies (suc a) i low h =
-    let n = sum_next bodies a in
+    let n = sum_next full_columns bodies a in
     let r = sum_rises bodies (suc a) (i - 1) (omega arith) in
     let e : suc a - 1 ≡ a = omega arith in
     let s : sum_by full_columns (take (suc a - 1) bodies) ≡ sum_by full_columns (take a bodies) = ap (λ (m : ℕ). sum_by full_columns (take m bodies)) e in
@@ -179,15 +179,19 @@ ups_same tree up are =
 pub length_ups : (tree : Tree) → length (ups_of tree) ≡ column_count tree.bodies
 length_ups tree = omega (arith, length-map (upward 1 (column_count tree.bodies + 1)) (up_of tree.bodies), length-upward 1 (column_count tree.bodies + 1))
 
-pub ups_ascend : (tree : Tree) → AreBodies tree.bodies → Ascends (ups_of tree)
-ups_ascend tree kept zero low high = absurd (omega arith)
-ups_ascend tree kept (suc k) low high =
-    let long = length_ups tree in
+-- the list tells the column upward
+pub up_listed : (tree : Tree) (d : ℕ) → 1 ≤ d → d ≤ column_count tree.bodies → above (ups_of tree) d ≡ up_of tree.bodies d
+up_listed tree zero low high = absurd (omega arith)
+up_listed tree (suc k) low high =
     let n = column_count tree.bodies + 1 in
-    let there : slice_index_or (upward 1 n) k 0 ≡ 1 + k = upward_at 1 n k 0 (omega (arith, long, high)) in
-    let up : slice_index_or (ups_of tree) k 0 ≡ up_of tree.bodies (suc k) =
-    get_or-map (up_of tree.bodies) (upward 1 n) k 0 0 (omega (arith, long, high, length-upward 1 n)) ∙ ap (up_of tree.bodies) (there ∙ omega arith) in
-    let below = up_below tree (suc k) (record { from = omega arith; to = omega (arith, long, high) }) kept.parents in
+    let there : slice_index_or (upward 1 n) k 0 ≡ 1 + k = upward_at 1 n k 0 (omega (arith, high)) in
+    get_or-map (up_of tree.bodies) (upward 1 n) k 0 0 (omega (arith, high, length-upward 1 n)) ∙ ap (up_of tree.bodies) (there ∙ omega arith)
+
+pub ups_ascend : (tree : Tree) → AreBodies tree.bodies → Ascends (ups_of tree)
+ups_ascend tree kept d low high =
+    let long = length_ups tree in
+    let up = up_listed tree d low (omega (arith, long, high)) in
+    let below = up_below tree d (record { from = low; to = omega (arith, long, high) }) kept.parents in
     omega (arith, up, below)
 
 -- a way on which a body's step is refused

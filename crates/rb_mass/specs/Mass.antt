@@ -13,7 +13,7 @@ use Rattle.rb_work.specs.Place.{I_of, H_of, packed_of, put as put_at, names}
 use Rattle.rb_tree.specs.Columns.{column_count, full_count, full_at, first_full}
 use Rattle.rb_tree.specs.Robot.{Tree, HasBody}
 use Rattle.rb_tree.specs.State.{Row}
-use Rattle.rb_tree.specs.Places.{IsFor, ArePlaces, IsPlaceRefused, rule as place_rule, order as place_order}
+use Rattle.rb_tree.specs.Places.{ArePlaces, IsPlaceRefused, rule as place_rule, order as place_order}
 use Rattle.rb_mass.specs.Inertias.{I_rule, AreInertias}
 use Rattle.rb_mass.specs.Entries.{above, met_columns, entry_at, H_rule, carried_rule, AreEntries}
 use Rattle.rb_mass.specs.Table.{ups_of, M_rule, AreMasses}
@@ -87,10 +87,14 @@ order tree = inertia_order tree ++ (entry_order tree ++ mass_order tree)
 abbrev pub naming : Tree → Naming View RowFault
 naming tree = record { Name = Name; Value = ValueOf; rule = rule tree; look = look tree; put = put tree; order = order tree }
 
--- there are values, with all else as it was given, in which the names before one are what their rules give, and the rule of that one refuses
+-- two works have the same places of bodies
+abbrev pub SamePlaces : Tree → View → View → Type 0
+SamePlaces tree u w = (i : ℕ) → HasBody tree i → X_at u i ≡ X_at w i
+
+-- there are values with the places that are given, in which the names before one are what their rules give, and the rule of that one refuses
 pub record IsMassRefused (tree : Tree) (given : View) (e : RowFault) : Type 0 where
   pub values : View
-  pub others : values ≡ record given { I = values.I; H = values.H; packed = values.packed }
+  pub places : SamePlaces tree given values
   pub first : IsRefusedFirst (naming tree) values e
 
 -- ---- answers
@@ -119,12 +123,25 @@ unfoldable pub answer_of : Tree → Row → Result (List (List Interval)) RowFau
 answer_of tree row = run (names (place_rule tree row) (place_order tree)) (place_order tree) (blank_of (extent_for tree)) >>= λ w. mass_of tree w
 
 -- ---- laws
--- two works have the same places of bodies
-abbrev pub SamePlaces : Tree → View → View → Type 0
-SamePlaces tree u w = (i : ℕ) → HasBody tree i → X_at u i ≡ X_at w i
-
--- there is one answer, whatever a work held but for its places: the same table, or one refusal, and not both
+-- there is one answer, whatever works for the robot held but for its places: the same table, or one refusal, and not both
 pub record MassHasOneAnswer (tree : Tree) : Type 0 where
-  pub values : (u w : View) → IsFor tree u → IsFor tree w → SamePlaces tree u w → AreMass tree u → AreMass tree w → table_in tree u ≡ table_in tree w
+  pub values : (u w : View) → u.up ≡ ups_of tree → w.up ≡ ups_of tree → SamePlaces tree u w → AreMass tree u → AreMass tree w → table_in tree u ≡ table_in tree w
   pub either : (u w : View) (e : RowFault) → SamePlaces tree u w → AreMass tree u → IsMassRefused tree w e → ⊥
   pub refusal : (u w : View) (d e : RowFault) → SamePlaces tree u w → IsMassRefused tree u d → IsMassRefused tree w e → d ≡ e
+
+-- values that are what their rules give from those of the row
+pub record AreRow (tree : Tree) (row : Row) (w : View) : Type 0 where
+  pub columns : w.up ≡ ups_of tree
+  pub places : ArePlaces tree row w
+  pub masses : AreMass tree w
+
+-- of a row there is one answer, whatever works held
+pub record RowHasOneAnswer (tree : Tree) (row : Row) : Type 0 where
+  pub values : (u w : View) → AreRow tree row u → AreRow tree row w → table_in tree u ≡ table_in tree w
+  pub either : (w : View) (e : RowFault) → AreRow tree row w → IsRefused tree row e → ⊥
+  pub refusal : (d e : RowFault) → IsRefused tree row d → IsRefused tree row e → d ≡ e
+
+-- what the answer means: the table of such values, or a refusal of such a name
+pub record AnswerMeans (tree : Tree) (row : Row) : Type 0 where
+  pub values : (table : List (List Interval)) → (answer_of tree row ≡ Ok table) ↔ ((w : View) × AreRow tree row w × (table_in tree w ≡ table))
+  pub refused : (e : RowFault) → (answer_of tree row ≡ Err e) ↔ IsRefused tree row e

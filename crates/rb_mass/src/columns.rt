@@ -14,7 +14,7 @@ use rb_spatial::{Force, Motion};
 use rb_tree::Robot;
 
 /// Column `k`, from 0, of the joint of a body.
-#[derive(Clone, Copy, Debug, PartialEq, Eq)]
+#[derive(Clone, Copy)]
 pub(crate) struct JointColumn {
     pub body: u32,
     pub k: usize,

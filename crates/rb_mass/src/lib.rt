@@ -5,6 +5,7 @@
 mod columns;
 mod entries;
 mod inertias;
+pub mod laws;
 mod masses;
 mod row;
 

@@ -1,11 +1,11 @@
 //! The mass table: the entries of pairs of joint columns, gathered by the columns that these are or follow.
 
-ghost use Rattle.std.specs.Prelude.{◌≡◌, ◌+◌, ◌≤◌, ◌==◌, ◌||◌, length, IfErr};
+ghost use Rattle.std.specs.Prelude.{◌≡◌, ◌+◌, ◌≤◌, ◌==◌, ◌||◌, not, false, length, IfErr};
 ghost use Rattle.rb_num.specs.Interval.{zero_interval};
 ghost use Rattle.rb_sweep.specs.Sweep.{Answers, sweep, upward};
 ghost use Rattle.rb_flat.specs.Dynamics.{follows};
-ghost use Rattle.rb_work.specs.Path.{path};
-ghost use Rattle.rb_tree.specs.Columns.{column_count, full_count, first_full};
+ghost use Rattle.rb_work.specs.Path.{path, IsOn};
+ghost use Rattle.rb_tree.specs.Columns.{has_mimic, column_count, full_count, first_full};
 ghost use Rattle.rb_tree.specs.Numbers.{mimic_at};
 ghost use Rattle.rb_tree.specs.Shape.{master_of};
 ghost use Rattle.rb_tree.specs.Robot.{HasBody, HasColumn};
@@ -19,7 +19,7 @@ use rb_tree::Robot;
 use rb_work::{Name, NameKind, RowFault, Work, named};
 
 // The entry of columns c and d that is gathered, and whether a joint follows that of c or d.
-#[derive(Clone, Copy, Debug)]
+#[derive(Clone, Copy)]
 struct Sought {
     c: u32,
     d: u32,
@@ -27,7 +27,7 @@ struct Sought {
 }
 
 // Two columns of joints, the second of the same body or of one above it.
-#[derive(Clone, Copy, Debug)]
+#[derive(Clone, Copy)]
 struct Pair {
     first: JointColumn,
     second: JointColumn,
@@ -256,11 +256,44 @@ fn gathered(robot: &Robot, c: u32, d: u32, work: &Work) -> Result<Iv, NumFault>
     Ok(sum)
 }
 
+// The sum where no joint follows another: one pair alone is these columns.
+fn alone(robot: &Robot, c: u32, d: u32, work: &Work) -> Result<Iv, NumFault>
+    requires room { work.now.full ≡ full_count robot.now.bodies }
+    requires plain { has_mimic robot.now.bodies ≡ false }
+    requires second { HasColumn robot.now d }
+    requires order { c ≤ d }
+    requires on { IsOn (ups_of robot.now) d c }
+    ensures exact { result ≡ sweep (add_joint robot.now work.now c d) (upward 1 (length robot.now.bodies + 1)) zero_interval }
+    ensures size { IfErr result (λ e. e ≡ NumFault.Size) }
+{
+    let _tree = robot.bodies();
+    Iv::ZERO.add(work.H(d, c))
+}
+
+// The sum, by the way that serves.
+fn entry_of(robot: &Robot, c: u32, d: u32, plain: bool, work: &Work) -> Result<Iv, NumFault>
+    requires room { work.now.full ≡ full_count robot.now.bodies }
+    requires plain { plain ≡ not (has_mimic robot.now.bodies) }
+    requires first { HasColumn robot.now c }
+    requires second { HasColumn robot.now d }
+    requires order { c ≤ d }
+    requires on { IsOn (ups_of robot.now) d c }
+    ensures exact { result ≡ sweep (add_joint robot.now work.now c d) (upward 1 (length robot.now.bodies + 1)) zero_interval }
+    ensures size { IfErr result (λ e. e ≡ NumFault.Size) }
+{
+    if plain {
+        alone(robot, c, d, work)
+    } else {
+        gathered(robot, c, d, work)
+    }
+}
+
 // The name of two columns, if they are on one path.
 #[tactic(auto, unfolding(crate::specs::Table::M_rule, crate::specs::Steps::pair_step), using(crate::proofs::Ways::pair_on))]
-fn put_pair(robot: &Robot, c: u32, d: u32, work: &mut Work) -> Result<(), RowFault>
+fn put_pair(robot: &Robot, c: u32, d: u32, plain: bool, work: &mut Work) -> Result<(), RowFault>
     requires room { work.old.full ≡ full_count robot.now.bodies }
     requires up { work.old.up ≡ ups_of robot.now }
+    requires plain { plain ≡ not (has_mimic robot.now.bodies) }
     requires first { HasColumn robot.now c }
     requires second { HasColumn robot.now d }
     requires order { c ≤ d }
@@ -270,23 +303,27 @@ fn put_pair(robot: &Robot, c: u32, d: u32, work: &mut Work) -> Result<(), RowFau
     if !work.is_on(d, c) {
         return Ok(());
     }
-    let entry = named(gathered(robot, c, d, work), Name::two(NameKind::M, c, d))?;
+    let entry = named(
+        entry_of(robot, c, d, plain, work),
+        Name::two(NameKind::M, c, d),
+    )?;
     work.set_M(c, d, entry);
     Ok(())
 }
 
 // The names of one column.
 #[tactic(auto, unfolding(crate::specs::Steps::mass_step), using(rb_sweep::proofs::SweepSteps::sweeps))]
-fn put_pairs(robot: &Robot, c: u32, work: &mut Work) -> Result<(), RowFault>
+fn put_pairs(robot: &Robot, c: u32, plain: bool, work: &mut Work) -> Result<(), RowFault>
     requires room { work.old.full ≡ full_count robot.now.bodies }
     requires up { work.old.up ≡ ups_of robot.now }
+    requires plain { plain ≡ not (has_mimic robot.now.bodies) }
     requires there { HasColumn robot.now c }
     ensures step { Answers result (mass_step robot.now c work.old) work.new }
     ensures others { work.new ≡ record work.old { packed = work.new.packed } }
 {
     let end = robot.nv() + 1;
     for d in c..end {
-        put_pair(robot, c, d, work)?;
+        put_pair(robot, c, d, plain, work)?;
     }
     Ok(())
 }
@@ -299,9 +336,10 @@ pub(crate) fn sweep_masses(robot: &Robot, work: &mut Work) -> Result<(), RowFaul
     ensures exact { Answers result (masses_of robot.now work.old) work.new }
     ensures others { work.new ≡ record work.old { packed = work.new.packed } }
 {
+    let plain = !robot.has_mimic();
     let end = robot.nv() + 1;
     for c in 1..end {
-        put_pairs(robot, c, work)?;
+        put_pairs(robot, c, plain, work)?;
     }
     Ok(())
 }
