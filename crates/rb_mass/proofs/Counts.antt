@@ -1,15 +1,15 @@
 -- Which names there are, their ranks, and that each has a place of its own.
-use Rattle.std.proofs.Common.{◌≡◌, ◌≢◌, ℕ, zero, suc, ◌+◌, ◌-◌, ◌*◌, ◌<◌, ◌≤◌, ◌==◌, if◌then◌else◌, List, length, max, min, Bool, true, false, inl, inr, refl, ap, sym, ◌∙◌, subst, arith}
+use Rattle.std.proofs.Common.{◌≡◌, ℕ, zero, suc, ◌+◌, ◌-◌, ◌*◌, ◌<◌, ◌≤◌, ◌==◌, if◌then◌else◌, List, length, max, min, Bool, true, false, inl, inr, refl, ap, sym, ◌∙◌, arith}
 use Rattle.std.proofs.lemmas.Bool.{cases_lt}
 use Rattle.rb_joint.specs.Any.{kind_of}
 use Rattle.rb_tree.specs.declared.robot.Body.{Body}
-use Rattle.rb_tree.specs.Columns.{parent_at, full_at, full_count, first_full, column_count}
+use Rattle.rb_tree.specs.Columns.{parent_at, full_at, full_count, first_full}
 use Rattle.rb_tree.specs.Numbers.{joint_at}
 use Rattle.rb_tree.specs.Robot.{Tree, HasBody, AreBodies}
 use Rattle.rb_tree.proofs.ColumnLaws.{few_columns}
 use Rattle.rb_tree.proofs.Spans.{full_within}
-use Rattle.rb_work.specs.Path.{Ascends, IsOn}
-use Rattle.rb_work.specs.View.{Extent, View}
+use Rattle.rb_work.specs.Path.{Ascends}
+use Rattle.rb_work.specs.View.{Extent}
 use Rattle.rb_work.specs.Place.{I_of, H_of, packed_of}
 use Rattle.rb_work.proofs.PlaceLaws.{Inside}
 use Rattle.rb_mass.specs.Entries.{HasJointColumn, HasEntry, above, met_columns}

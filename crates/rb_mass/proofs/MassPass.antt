@@ -1,15 +1,13 @@
 -- The values of the mass table, and the first refusal, are determined by the robot and the places alone.
-use Rattle.std.proofs.Common.{◌≡◌, ◌≢◌, ℕ, zero, suc, ◌+◌, ◌-◌, ◌*◌, ◌<◌, ◌≤◌, ◌==◌, ◌||◌, if◌then◌else◌, List, [], ◌∷◌, ◌++◌, length, flat_map, max, min, Bool, true, false, Result, Ok, Err, inl, inr, refl, ap, sym, ◌∙◌, subst, arith}
-use Rattle.rb_num.specs.Interval.{Interval, zero_interval}
-use Rattle.rb_num.specs.Arith.{intervals}
+use Rattle.std.proofs.Common.{◌≡◌, ℕ, ◌+◌, ◌-◌, ◌*◌, ◌<◌, ◌≤◌, ◌==◌, ◌||◌, if◌then◌else◌, [], ◌∷◌, ◌++◌, length, flat_map, max, min, Bool, true, false, Ok, inl, refl, ap, sym, ◌∙◌, subst, arith}
+use Rattle.rb_num.specs.Interval.{Interval}
 use Rattle.rb_frac.specs.Spatial.{Inertia, Place}
-use Rattle.rb_result.specs.Steps.{◌>>=◌}
-use Rattle.rb_sweep.specs.Sweep.{Among, sweep, upward, downward}
+use Rattle.rb_sweep.specs.Sweep.{Among, upward}
 use Rattle.rb_sweep.specs.Naming.{run}
 use Rattle.rb_sweep.proofs.Climbing.{Climbs, climbs_append, climbs_widen, climbs_upward, climbs_downward, among_left, among_right, among_upward, among_downward, upward_same, downward_same}
 use Rattle.rb_sweep.proofs.NamingLaws.{Shape, IsOrdered}
 use Rattle.rb_work.specs.Path.{is_on, packed_place}
-use Rattle.rb_work.specs.View.{View, Extent, X_at, I_at, M_at, full_place}
+use Rattle.rb_work.specs.View.{View, Extent, X_at, I_at, full_place}
 use Rattle.rb_work.specs.Place.{I_of, H_of, packed_of}
 use Rattle.rb_work.proofs.PathLaws.{is_on_true, on_from_test}
 use Rattle.rb_work.proofs.Sizes.{sizes_of, sizes_for, sizes_I, sizes_H, sizes_packed}
@@ -17,7 +15,7 @@ use Rattle.rb_tree.specs.Columns.{full_at, first_full, column_count}
 use Rattle.rb_tree.specs.Robot.{Tree, HasBody, AreBodies}
 use Rattle.rb_mass.specs.Inertias.{bear, add_child, I_rule}
 use Rattle.rb_mass.specs.Entries.{HasJointColumn, HasEntry, above, met_columns, entry_at, H_rule, carried_rule}
-use Rattle.rb_mass.specs.Table.{ups_of, HasPair, add_pair, add_body, add_column, column_of, add_joint, M_rule}
+use Rattle.rb_mass.specs.Table.{ups_of, add_pair, add_body, add_column, column_of, add_joint, M_rule}
 use Rattle.rb_mass.specs.Mass.{Name, inertia, entry, carried, mass, ValueOf, rule, look, put, entries_met, column_names, joint_names, mass_names, inertia_order, entry_order, mass_order, order, naming, SamePlaces}
 use Rattle.rb_mass.proofs.Counts.{Known, rank, HasRoom, few_at, met_within, first_number, second_number, same_entry, inside_inertia, inside_entry, inside_mass}
 use Rattle.rb_mass.proofs.Ways.{ups_ascend}

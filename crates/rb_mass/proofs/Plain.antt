@@ -1,5 +1,5 @@
 -- A robot in which no joint follows another: each pair of columns on one path has one pair of joint columns.
-use Rattle.std.proofs.Common.{◌≡◌, ◌≢◌, ℕ, zero, suc, ◌+◌, ◌-◌, ◌<◌, ◌≤◌, ◌==◌, ◌||◌, ◌&&◌, not, if◌then◌else◌, List, [], ◌∷◌, length, take, sum_by, slice_get, Bool, true, false, Option, None, Some, is_some, nat_lt, Result, Ok, Err, inl, inr, refl, ap, sym, ◌∙◌, subst, arith}
+use Rattle.std.proofs.Common.{◌≡◌, ◌≢◌, ℕ, zero, suc, ◌+◌, ◌-◌, ◌<◌, ◌≤◌, ◌==◌, ◌||◌, ◌&&◌, if◌then◌else◌, List, [], ◌∷◌, length, take, sum_by, slice_get, Bool, true, false, Option, None, Some, is_some, nat_lt, Result, Ok, inl, inr, refl, ap, sym, ◌∙◌, subst, arith}
 use Rattle.std.specs.List.{list_any}
 use Rattle.std.specs.Option.{option_map_or}
 use Rattle.std.proofs.lemmas.Bool.{cases_lt}
@@ -16,16 +16,16 @@ use Rattle.rb_work.proofs.PathLaws.{path_next, path_done}
 use Rattle.rb_work.specs.View.{View, H_at}
 use Rattle.rb_tree.specs.declared.robot.Body.{Body}
 use Rattle.rb_tree.specs.declared.robot.Mimic.{Mimic}
-use Rattle.rb_tree.specs.Columns.{body_at, parent_at, full_at, columns_at, leader_at, mimic_or, full_columns, own_columns, unless_mimic, has_mimic, start_behind, first_full, first_column, column_count, body_of_column, nearest_within, nearest_column, up_of}
+use Rattle.rb_tree.specs.Columns.{body_at, parent_at, full_at, columns_at, leader_at, mimic_or, full_columns, own_columns, unless_mimic, has_mimic, start_behind, first_full, first_column, body_of_column, nearest_within, nearest_column, up_of}
 use Rattle.rb_tree.specs.Numbers.{mimic_at}
-use Rattle.rb_tree.specs.Shape.{master_of, shape_of}
+use Rattle.rb_tree.specs.Shape.{master_of}
 use Rattle.rb_tree.specs.Robot.{Tree, HasBody, HasColumn, AreBodies}
 use Rattle.rb_tree.proofs.ColumnLaws.{nearest_open}
 use Rattle.rb_tree.proofs.Spans.{column_within, owner_there_at, up_below}
 use Rattle.rb_mass.specs.Entries.{HasJointColumn, HasEntry, above, met_columns, entry_at}
 use Rattle.rb_mass.specs.Table.{ups_of, column_of, is_led, is_pair, pair_adds, add_pair, add_body, add_column, add_joint}
 use Rattle.rb_mass.proofs.Ways.{sum_next, ups_ascend, up_listed, above_here, above_next, above_falls}
-use Rattle.rb_mass.proofs.Counts.{same_column, met_within, entry_body, entry_low, entry_below, second_number, met_once}
+use Rattle.rb_mass.proofs.Counts.{same_column, entry_body, entry_below, second_number, met_once}
 
 -- ---- a sweep of which one step alone does something
 module _ {S E : Type 0} (step : ℕ → S → Result S E) (j : ℕ) where

@@ -1,5 +1,5 @@
 -- What a row of the mass table answers.
-use Rattle.std.proofs.Common.{◌≡◌, ◌⊎◌, ℕ, ◌+◌, List, length, Result, Ok, Err, OnOk, IfErr, inl, inr, refl, ap, sym, ◌∙◌, subst, arith}
+use Rattle.std.proofs.Common.{◌≡◌, ◌+◌, List, length, Result, Ok, Err, OnOk, IfErr, inl, inr, refl, ap, sym, ◌∙◌, subst}
 use Rattle.rb_num.specs.Interval.{Interval}
 use Rattle.rb_frac.specs.Spatial.{Place}
 use Rattle.rb_result.specs.Steps.{◌>>=◌}
@@ -9,10 +9,10 @@ use Rattle.rb_result.proofs.Results.{then-ok, then-err, same_ok, not-both}
 use Rattle.rb_sweep.proofs.NamingLaws.{found, refusal, finds, refuses}
 use Rattle.rb_work.specs.declared.names.RowFault.{RowFault}
 use Rattle.rb_work.specs.View.{View, blank_of, X_at}
-use Rattle.rb_work.specs.Place.{q_of, X_of, names}
+use Rattle.rb_work.specs.Place.{X_of, names}
 use Rattle.rb_work.proofs.PlaceLaws.{IsCall, ordered}
 use Rattle.rb_work.proofs.Sizes.{Sizes, blank_for}
-use Rattle.rb_tree.specs.Robot.{Tree, HasBody, AreBodies}
+use Rattle.rb_tree.specs.Robot.{Tree, AreBodies}
 use Rattle.rb_tree.specs.State.{Row}
 use Rattle.rb_tree.specs.Places.{ArePlaces, IsPlaceRefused, rule as place_rule, order as place_order}
 use Rattle.rb_tree.proofs.PlacePass as places

@@ -1,5 +1,5 @@
 -- The sweeps are runs over the names.
-use Rattle.std.proofs.Common.{◌≡◌, ℕ, zero, suc, ◌+◌, ◌-◌, ◌<◌, ◌≤◌, ◌==◌, if◌then◌else◌, List, [], ◌∷◌, ◌++◌, length, flat_map, slice_get, slice_index_or, Bool, true, false, Option, None, Some, Result, Ok, Err, inl, inr, refl, ap, sym, ◌∙◌, subst, arith}
+use Rattle.std.proofs.Common.{◌≡◌, ℕ, zero, suc, ◌+◌, ◌-◌, ◌<◌, ◌≤◌, ◌==◌, if◌then◌else◌, List, [], ◌∷◌, ◌++◌, length, flat_map, slice_get, slice_index_or, Bool, true, false, Option, None, Result, Ok, Err, inl, inr, refl, ap, sym, ◌∙◌, arith}
 use Rattle.std.specs.Option.{option_map_or}
 use Rattle.std.proofs.lemmas.List.{append_assoc}
 use Rattle.std.proofs.lemmas.Bool.{cases_lt}
@@ -7,10 +7,10 @@ use Rattle.rb_num.specs.Interval.{Interval}
 use Rattle.rb_num.specs.Arith.{intervals}
 use Rattle.rb_num.specs.declared.interval.NumFault.{NumFault}
 use Rattle.rb_frac.specs.Spatial.{Force}
-use Rattle.rb_result.specs.Steps.{◌>>=◌, told_as}
+use Rattle.rb_result.specs.Steps.{◌>>=◌}
 use Rattle.rb_result.proofs.Results.{same_ok, then-ok}
-use Rattle.rb_sweep.specs.Sweep.{sweep, counting_up, upward, downward}
-use Rattle.rb_sweep.specs.Naming.{Naming, run}
+use Rattle.rb_sweep.specs.Sweep.{sweep, counting_up, upward}
+use Rattle.rb_sweep.specs.Naming.{run}
 use Rattle.rb_sweep.proofs.Climbing.{then_same, run_append, run_upward, run_downward}
 use Rattle.rb_sweep.proofs.SweepSteps.{upward_done, sweep_done}
 use Rattle.rb_spatial.specs.Motions.{apply_dual}
@@ -21,8 +21,8 @@ use Rattle.rb_work.specs.declared.names.NameKind.TheVariants as K
 use Rattle.rb_work.specs.declared.names.RowFault.{RowFault}
 use Rattle.rb_work.specs.declared.names.RowFault.TheVariants.{Size}
 use Rattle.rb_work.specs.Names.{one, named_as}
-use Rattle.rb_work.specs.Path.{is_on, packed_place}
-use Rattle.rb_work.specs.View.{View, X_at, I_at, full_place}
+use Rattle.rb_work.specs.Path.{is_on}
+use Rattle.rb_work.specs.View.{View, X_at, I_at}
 use Rattle.rb_work.specs.Zeros.{zero_inertia, zero_place}
 use Rattle.rb_tree.specs.declared.robot.Body.{Body}
 use Rattle.rb_tree.specs.Columns.{column_count, parent_at, full_at, first_full, full_columns}
@@ -30,9 +30,9 @@ use Rattle.rb_tree.specs.Numbers.{joint_at}
 use Rattle.rb_tree.specs.Robot.{Tree, HasBody, AreBodies}
 use Rattle.rb_mass.specs.Entries.{above, met_columns, leave, force, H_rule, carried_rule}
 use Rattle.rb_mass.specs.Table.{ups_of, M_rule}
-use Rattle.rb_mass.specs.Steps.{parents_of, inertia_step, inertias_of, entry_step, entries_on, Way, goes_on, way_step, way_from, column_walk, column_step, joint_step, entries_of, pair_step, mass_step, masses_of, sweeps_of}
+use Rattle.rb_mass.specs.Steps.{inertia_step, inertias_of, entry_step, entries_on, Way, goes_on, way_step, way_from, column_walk, column_step, joint_step, entries_of, pair_step, mass_step, masses_of, sweeps_of}
 use Rattle.rb_mass.specs.Mass.{Name, inertia, entry, carried, mass, put, entries_met, column_names, joint_names, mass_names, inertia_order, entry_order, mass_order, order, naming, SamePlaces}
-use Rattle.rb_mass.proofs.Ways.{above_here, above_next, none_met, walk}
+use Rattle.rb_mass.proofs.Ways.{none_met, walk}
 
 -- ---- what the force on the way upward reads
 none_past : (bodies : List Body) (k : ℕ) → length bodies ≤ k → slice_get bodies k ≡ None

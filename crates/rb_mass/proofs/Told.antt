@@ -1,28 +1,21 @@
 -- What a call answers, by the laws of names that are found in turn.
-use Rattle.std.proofs.Common.{◌≡◌, ◌⊎◌, ℕ, zero, suc, ◌+◌, ◌-◌, ◌<◌, ◌≤◌, List, [], ◌∷◌, length, map, get_or, max, min, if◌then◌else◌, Bool, true, false, Result, Ok, Err, OnOk, IfErr, inl, inr, refl, ap, sym, ◌∙◌, subst, arith}
+use Rattle.std.proofs.Common.{◌≡◌, ℕ, ◌+◌, ◌≤◌, List, length, map, max, min, if◌then◌else◌, Bool, true, false, Result, Ok, Err, OnOk, IfErr, refl, ap, sym, ◌∙◌, arith}
 use Rattle.rb_num.specs.Interval.{Interval, zero_interval}
-use Rattle.rb_frac.specs.Spatial.{Place, Inertia}
 use Rattle.rb_result.specs.Steps.{◌>>=◌}
-use Rattle.rb_result.proofs.Results.{same_ok, not-both}
 use Rattle.rb_sweep.specs.Sweep.{Answers, upward}
-use Rattle.rb_sweep.specs.Naming.{run}
 use Rattle.rb_sweep.proofs.Climbing.{map_upward_same}
 use Rattle.rb_sweep.proofs.NamingLaws.{found, refusal, same_values, not_both, one_refusal, finds, refuses}
-use Rattle.rb_sweep.proofs.Told.{told_ok, told_err}
 use Rattle.rb_work.specs.declared.names.RowFault.{RowFault}
-use Rattle.rb_work.specs.Path.{Ascends, IsOn, is_on}
-use Rattle.rb_work.specs.View.{View, Extent, IsSized, extent_of, blank_of, X_at, M_at, mass_at}
-use Rattle.rb_work.proofs.PathLaws.{on_from_test, on_least}
+use Rattle.rb_work.specs.Path.{is_on}
+use Rattle.rb_work.specs.View.{View, IsSized, extent_of, blank_of, X_at, M_at, mass_at}
+use Rattle.rb_work.proofs.PathLaws.{on_from_test}
 use Rattle.rb_work.proofs.Sizes.{Sizes, sizes_of, sizes_for, room_for, blank_for}
-use Rattle.rb_tree.specs.Columns.{column_count, up_of}
-use Rattle.rb_tree.specs.Robot.{Tree, HasBody, AreBodies}
-use Rattle.rb_tree.specs.State.{Row}
-use Rattle.rb_tree.specs.Places.{IsFor, ArePlaces, IsPlaceRefused}
-use Rattle.rb_tree.proofs.PlacePass as places
-use Rattle.rb_mass.specs.Entries.{HasEntry, HasJointColumn}
+use Rattle.rb_tree.specs.Columns.{column_count}
+use Rattle.rb_tree.specs.Robot.{Tree, AreBodies}
+use Rattle.rb_tree.specs.Places.{IsFor}
 use Rattle.rb_mass.specs.Table.{ups_of, HasPair}
 use Rattle.rb_mass.specs.Steps.{sweeps_of}
-use Rattle.rb_mass.specs.Mass.{Name, inertia, entry, carried, mass, ValueOf, rule, look, order, naming, AreMass, IsMassRefused, table_in, extent_for, mass_of, answer_of, IsRefused, SamePlaces, MassHasOneAnswer}
+use Rattle.rb_mass.specs.Mass.{Name, inertia, entry, carried, mass, ValueOf, rule, look, AreMass, IsMassRefused, table_in, extent_for, mass_of, SamePlaces, MassHasOneAnswer}
 use Rattle.rb_mass.proofs.Ways.{ups_same, ups_ascend}
 use Rattle.rb_mass.proofs.Runs.{sweeps_run}
 use Rattle.rb_mass.proofs.Counts.{Known, HasRoom}

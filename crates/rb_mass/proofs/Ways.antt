@@ -18,7 +18,7 @@ use Rattle.rb_work.specs.View.{View}
 use Rattle.rb_work.proofs.PathLaws.{path_next}
 use Rattle.rb_work.proofs.PathSteps.{path_step_next, path_step_refused, path_step_done}
 use Rattle.rb_tree.specs.declared.robot.Body.{Body}
-use Rattle.rb_tree.specs.Columns.{body_at, parent_at, full_at, first_full, full_columns, start_behind, column_count, up_of, IsListOf, AreUps}
+use Rattle.rb_tree.specs.Columns.{body_at, parent_at, full_at, first_full, full_columns, start_behind, column_count, up_of, AreUps}
 use Rattle.rb_tree.specs.Numbers.{joint_at}
 use Rattle.rb_tree.specs.Shape.{shape_of}
 use Rattle.rb_tree.specs.Robot.{Tree, HasBody, AreBodies}

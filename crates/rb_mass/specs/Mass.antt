@@ -1,6 +1,6 @@
 -- The mass table of a row by composite inertias: the values that a work holds, the first name that is refused, and the answer. Featherstone, Rigid
 -- Body Dynamics Algorithms, chapter 6.
-use Rattle.std.specs.Prelude.{◌≡◌, ◌⊎◌, ◌↔◌, ℕ, ◌+◌, ◌≤◌, if◌then◌else◌, ⊤, max, min, List, [], ◌∷◌, ◌++◌, length, map, flat_map, slice_set, Result, Ok, Err}
+use Rattle.std.specs.Prelude.{◌≡◌, ◌⊎◌, ◌↔◌, ℕ, ◌+◌, if◌then◌else◌, ⊤, max, min, List, [], ◌∷◌, ◌++◌, length, map, flat_map, Result, Ok, Err}
 use Rattle.rb_num.specs.Interval.{Interval}
 use Rattle.rb_frac.specs.Spatial.{Inertia}
 use Rattle.rb_result.specs.Steps.{◌>>=◌}
