@@ -27,7 +27,7 @@ tables_same t = record { x = vectors_same t.x; y = vectors_same t.y; z = vectors
 symmetrics_same : (s : Symmetric Frac) → Symmetrics Same s s
 symmetrics_same s = record { xx = same_refl s.xx; xy = same_refl s.xy; xz = same_refl s.xz; yy = same_refl s.yy; yz = same_refl s.yz; zz = same_refl s.zz }
 
-inertias_same : (i : Inertia Frac) → Inertias Same i i
+pub inertias_same : (i : Inertia Frac) → Inertias Same i i
 inertias_same i = record { a = symmetrics_same i.a; b = tables_same i.b; c = symmetrics_same i.c }
 
 inertia_sum_ext : (n : ℕ) (f g : ℕ → Inertia Frac) → ((k : ℕ) → k < n → f k ≡ g k) → inertia_sum n f ≡ inertia_sum n g

@@ -29,7 +29,7 @@ module _ (shape : Shape) where
         let to : suc a ≤ b = h (omega arith) in
         parents (suc a) (record { from = omega arith; to = omega arith })
 
-    some_above : (a : ℕ) → 1 ≤ above shape a → 1 ≤ a
+    pub some_above : (a : ℕ) → 1 ≤ above shape a → 1 ≤ a
     some_above zero h = absurd (omega arith)
     some_above (suc a) h = omega arith
 

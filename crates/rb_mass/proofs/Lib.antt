@@ -1,3 +1,12 @@
+pub mod Adding
+pub mod Summands
+pub mod Pass
+pub mod OnePair
+pub mod PairsLie
+pub mod SumsLie
+pub mod TablesLie
+pub mod Pattern
+pub mod MassEnclose
 pub mod Ways
 pub mod Placed
 pub mod Runs

@@ -5,3 +5,4 @@ pub mod Entries
 pub mod Table
 pub mod Steps
 pub mod Mass
+pub mod Encloses

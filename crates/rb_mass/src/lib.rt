@@ -7,8 +7,10 @@ mod entries;
 mod inertias;
 pub mod laws;
 mod masses;
+mod meaning;
 mod row;
 
+pub use meaning::table_law;
 pub use row::{composite, crba};
 
 #[cfg(test)]
