@@ -3,6 +3,7 @@ ghost use Rattle.rb_sweep.specs.Sweep.{Answers};
 ghost use Rattle.rb_tree.specs.State.{Fits};
 ghost use Rattle.rb_tree.specs.Places.{IsFor, ArePlaces};
 ghost use Rattle.rb_mass.specs.Steps.{sweeps_of};
+ghost use Rattle.rb_mass.specs.Encloses.{EnclosesMass, EnclosesRowMass};
 ghost use Rattle.rb_mass.specs.Mass.{AreMass, IsMassRefused, mass_of, table_in, IsRefused, answer_of};
 
 use crate::entries::sweep_entries;
@@ -39,6 +40,9 @@ pub fn composite(robot: &Robot, work: &mut Work) -> Result<(), RowFault>
     // one answer, whatever the work held before but for its places
     ensures answer { Answers result (mass_of robot.now work.old) (table_in robot.now work.new) }
 
+    // the mass table of each choice whose places lie in those of the work lies in the values
+    ensures encloses { OnOk result (EnclosesMass robot.now work.new) }
+
     // all else is as it was
     ensures others { work.new ≡ record work.old { I = work.new.I; H = work.new.H; packed = work.new.packed } }
 {
@@ -63,6 +67,9 @@ pub fn crba(robot: &Robot, state: &State, work: &mut Work) -> Result<(), RowFaul
 
     // one answer, whatever the work held before
     ensures answer { Answers result (answer_of robot.now state.now) (table_in robot.now work.new) }
+
+    // the mass table of each choice lies in the values
+    ensures encloses { OnOk result (EnclosesRowMass robot.now state.now work.new) }
 
     // all else is as it was
     ensures others { work.new ≡ record work.old { q = work.new.q; X = work.new.X; I = work.new.I; H = work.new.H; packed = work.new.packed } }
