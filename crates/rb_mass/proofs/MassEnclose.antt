@@ -268,6 +268,7 @@ mass_gives_torques tree row w c kept room places are chosen =
     let some = has_mass_table shape m parents fit in
     record {
       table = some.0;
+      is = some.1;
       lies = (mass_lies tree row w kept c chosen (places_lie tree row w kept places c chosen) are room).lies some.0 some.1;
       gives = λ outside s bias moves at_rest k has. torque_is_linear shape m outside some.0 s bias parents fit some.1 moves at_rest k (record { from = has.from; to = has.to });
     }

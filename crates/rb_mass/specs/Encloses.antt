@@ -28,11 +28,11 @@ pub record MassLies (tree : Tree) (m : Mechanism Frac) (w : View) : Type 0 where
 abbrev pub PlacesLie : Tree → Mechanism Frac → View → Type 0
 PlacesLie tree m w = (i : ℕ) → HasBody tree i → Places LiesIn (m.place i) (X_at w i)
 
--- so does each choice within the brackets of the robot whose places lie in those of the work, whatever the row
+-- it is so for each choice within the brackets of the robot whose places lie in those of the work, whatever the row
 pub record EnclosesMass (tree : Tree) (w : View) : Type 0 where
   pub at : (row : Row) (c : Choice) → IsChoice (brackets_of tree) (state_brackets row) c → PlacesLie tree (mechanism_of (shape_of tree) c) w → MassLies tree (mechanism_of (shape_of tree) c) w
 
--- and each choice within the brackets of the robot and of the row
+-- it is so for each choice within the brackets of the robot and of the row
 pub record EnclosesRowMass (tree : Tree) (row : Row) (w : View) : Type 0 where
   pub at : (c : Choice) → IsChoice (brackets_of tree) (state_brackets row) c → MassLies tree (mechanism_of (shape_of tree) c) w
 
@@ -47,6 +47,7 @@ GivesTorques tree m table =
 -- a mass table that lies in a work, and gives the torques
 pub record TorquesByMass (tree : Tree) (m : Mechanism Frac) (w : View) : Type 0 where
   pub table : ℕ → ℕ → Frac
+  pub is : IsMassTable (shape_of tree) m table
   pub lies : EntriesLie tree table w
   pub gives : GivesTorques tree m table
 
