@@ -42,7 +42,7 @@ module _ (shape : Shape) (m : Mechanism Frac) (parents : ParentsComeFirst shape)
   bearing zero i = no_inertia
   bearing (suc n) i = sum_of_two fractions (own_inertia shape m i) (children_inertia shape m (bearing n) i)
 
-  same_children : (i : ℕ) (f g : ℕ → Inertia Frac) → ((k : ℕ) → HasBody shape k → shape.parent k ≡ i → f k ≡ g k) → children_inertia shape m f i ≡ children_inertia shape m g i
+  pub same_children : (i : ℕ) (f g : ℕ → Inertia Frac) → ((k : ℕ) → HasBody shape k → shape.parent k ≡ i → f k ≡ g k) → children_inertia shape m f i ≡ children_inertia shape m g i
   unfolding children_inertia
   same_children i f g h = inertia_sum_ext shape.bodies _ _ (λ k l. child k l (shape.parent (suc k) == i) refl)
     where

@@ -12,3 +12,5 @@ pub mod Once
 pub mod Mass
 pub mod Rigid
 pub mod Owners
+pub mod Adding
+pub mod Summands

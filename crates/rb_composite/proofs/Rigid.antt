@@ -48,7 +48,7 @@ probed-same f g h =
     let turn = λ (k : ℕ). exact (power_of fracs (around s (unit s k)) f) (power_of fracs (around s (unit s k)) g) (h (around s (unit s k))) in
     record { lin = record { x = shift 0; y = shift 1; z = shift 2 }; ang = record { x = turn 0; y = turn 1; z = turn 2 } }
 
-by_powers : (f g : Force Frac) → ((a : Motion Frac) → power a f ≡ power a g) → Spatials Same f g
+pub by_powers : (f g : Force Frac) → ((a : Motion Frac) → power a f ≡ power a g) → Spatials Same f g
 by_powers f g h =
     spatials_trans same_fractions (spatials_sym same_fractions (probed-is f)) (spatials_trans same_fractions (probed-same f g h) (probed-is g))
 

@@ -1,5 +1,3 @@
-pub mod Adding
-pub mod Summands
 pub mod Pass
 pub mod OnePair
 pub mod PairsLie

@@ -16,8 +16,8 @@ use Rattle.rb_num.specs.Fraction.{LiesIn}
 use Rattle.rb_num.proofs.Same.{lies_in_same}
 use Rattle.rb_num.proofs.Relates.{Met, dot_met, add_met}
 use Rattle.rb_num.proofs.Bridges.{to_intervals}
-use Rattle.rb_mass.proofs.Adding.{Adds, then_lies, met_same, adds_same, adds_nul}
-use Rattle.rb_mass.proofs.Summands.{numbers}
+use Rattle.rb_composite.proofs.Adding.{Adds, then_lies, met_same, adds_same, adds_nul}
+use Rattle.rb_composite.proofs.Summands.{numbers}
 use Rattle.rb_mass.proofs.Pass.{weighed, twice_if, pair_adds, is_pair, add_counted}
 
 abbrev NumberWithin : Frac → Result Interval NumFault → Type 0

@@ -19,8 +19,8 @@ use Rattle.rb_flat.specs.Mechanism.{Mechanism}
 use Rattle.rb_composite.specs.Composite.{ancestor, HasJointColumn, no_inertia, inertia_sum, own_inertia, children_inertia, AreComposites, carried, ArePairs}
 use Rattle.rb_composite.proofs.Exists.{inertias_same}
 use Rattle.rb_composite.proofs.Paths.{equal_is, ancestor-next, path_body, some_above}
-use Rattle.rb_mass.proofs.Adding.{Adds, then_lies, adds_same, adds_if, adds_down, total_late}
-use Rattle.rb_mass.proofs.Summands.{inertias, inertias_back, inertias_moved}
+use Rattle.rb_composite.proofs.Adding.{Adds, then_lies, adds_same, adds_if, adds_down, total_late}
+use Rattle.rb_composite.proofs.Summands.{inertias, inertias_back, inertias_moved}
 use Rattle.rb_mass.proofs.Pass.{Given, Found, IsWithin, IsPass, add_child, met_columns}
 
 pub downward_is : (i n : ℕ) → i ≤ n → downward (i + 1) (n + 1) ≡ counting_down (suc i) (n - i)

@@ -25,8 +25,8 @@ use Rattle.rb_composite.specs.Composite.{ancestor, HasJointColumn, over_joints, 
 use Rattle.rb_composite.proofs.Paths.{equal_is, path_falls, path_body, path_ends}
 use Rattle.rb_composite.proofs.Joints.{cls-over_joints, total_ext}
 use Rattle.rb_composite.proofs.Owners.{gear, once_share, once_share-is}
-use Rattle.rb_mass.proofs.Adding.{Adds, adds_same, adds_nul, adds_up, adds_down}
-use Rattle.rb_mass.proofs.Summands.{numbers}
+use Rattle.rb_composite.proofs.Adding.{Adds, adds_same, adds_nul, adds_up, adds_down}
+use Rattle.rb_composite.proofs.Summands.{numbers}
 use Rattle.rb_mass.proofs.Pass.{Given, Found, IsWithin, IsPass, met_columns, is_pair, add_counted, add_pair, add_body, add_column, add_joint, entry_of}
 use Rattle.rb_mass.proofs.OnePair.{adds_two, adds_itself}
 use Rattle.rb_mass.proofs.PairsLie.{pairs_lie}

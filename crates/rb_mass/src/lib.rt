@@ -4,12 +4,14 @@
 
 mod columns;
 mod entries;
+mod factors;
 mod inertias;
 pub mod laws;
 mod masses;
 mod meaning;
 mod row;
 
+pub use factors::{factor, solve};
 pub use meaning::table_law;
 pub use row::{composite, crba};
 

@@ -42,7 +42,7 @@ use Rattle.rb_tree.proofs.ColumnLaws.{few_columns}
 use Rattle.rb_tree.proofs.ColumnsFit.{columns_fit, parents_first}
 use Rattle.rb_tree.proofs.PlaceEncloses.{kind_same, master_same, places_enclose}
 use Rattle.rb_rnea.specs.Rates.{motion_by, joint_columns, rates_by, rates_of, motion_of}
-use Rattle.rb_rnea.specs.Speeds.{checked_rates, s_rule, velocity_by, v_rule}
+use Rattle.rb_rnea.specs.Speeds.{checked_rates, s_rule, velocity_by, v_rule, AreSpeeds}
 use Rattle.rb_rnea.specs.Accelerations.{turning_by, c_rule, acceleration_by, a_rule, need_by, b_rule}
 use Rattle.rb_rnea.specs.Forces as Forces
 use Rattle.rb_rnea.specs.Forces.{f_rule}
@@ -119,15 +119,15 @@ masters_rates : (bodies : List Body) (numbers : List Interval) (i master : ℕ) 
 masters_rates bodies numbers i master None h = absurd cc
 masters_rates bodies numbers i master (Some mimic) h = refl
 
-s_is : (tree : Tree) (row : Row) (w : View) → AreDynamics tree row w → (i : ℕ) → HasBody tree i → rates_of tree.bodies row.v i ≡ Ok (s_at w i)
+pub s_is : (tree : Tree) (row : Row) (w : View) → AreSpeeds tree row w → (i : ℕ) → HasBody tree i → rates_of tree.bodies row.v i ≡ Ok (s_at w i)
 unfolding s_rule checked_rates
 s_is tree row w are i has =
-    let first = then-ok (rates_of tree.bodies row.v i) (λ rates. motion_of tree.bodies i rates >>= λ m. Ok rates) (s_at w i) (told-ok _ _ _ (are.speeds.each_s i has)) in
+    let first = then-ok (rates_of tree.bodies row.v i) (λ rates. motion_of tree.bodies i rates >>= λ m. Ok rates) (s_at w i) (told-ok _ _ _ (are.each_s i has)) in
     let second = then-ok (motion_of tree.bodies i first.0) (λ m. Ok first.0) (s_at w i) first.2 in
     first.1 ∙ second.2
 
 module _ (tree : Tree) (row : Row) (kept : AreBodies tree.bodies) (c : Choice) (chosen : IsChoice (brackets_of tree) (state_brackets row) c) where
-  rates_within : (i : ℕ) (rate : ℕ → Frac) (numbers : List Interval) → HasBody tree i
+  pub rates_within : (i : ℕ) (rate : ℕ → Frac) (numbers : List Interval) → HasBody tree i
       → ((k : ℕ) → Flat.HasColumn (shape_of tree) k → LiesIn (rate k) (at_place numbers (k - 1)))
       → RatesWithin (Kinds.column_count (kind_at tree.bodies i)) (rate_of (shape_of tree) c rate i) (rates_of tree.bodies numbers i)
   unfolding rates_of
@@ -152,7 +152,7 @@ module _ (tree : Tree) (row : Row) (kept : AreBodies tree.bodies) (c : Choice) (
           inertia = inertia_lies tree row kept c chosen i has;
           multiplier = λ master e. multiplier_lies tree row c chosen i master has e;
           velocity_over = motion_within (shape_of tree) c i joint c.speed (s_at w i) kind model
-              (ok_met (s_is tree row w are i has) (rates_within i c.speed row.v has (λ k col. (chosen.columns k col).speed)));
+              (ok_met (s_is tree row w are.speeds i has) (rates_within i c.speed row.v has (λ k col. (chosen.columns k col).speed)));
           acceleration_over = then_lies (rates_within i c.acceleration row.a has (λ k col. (chosen.columns k col).acceleration))
               (λ rates lie. motion_within (shape_of tree) c i joint c.acceleration rates kind model lie);
         }

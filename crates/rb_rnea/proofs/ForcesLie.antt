@@ -38,7 +38,7 @@ upward_is : (n : ℕ) → upward 1 (n + 1) ≡ counting_up 1 n
 unfolding upward
 upward_is n = let e : n + 1 - 1 ≡ n = omega arith in ap (counting_up 1) e
 
-downward_is : (i n : ℕ) → i ≤ n → downward (i + 1) (n + 1) ≡ counting_down (suc i) (n - i)
+pub downward_is : (i n : ℕ) → i ≤ n → downward (i + 1) (n + 1) ≡ counting_down (suc i) (n - i)
 unfolding downward
 downward_is i n h =
     let e : n + 1 - (i + 1) ≡ n - i = omega arith in

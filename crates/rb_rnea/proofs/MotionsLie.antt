@@ -1,6 +1,6 @@
 -- The velocities and the accelerations of the bodies lie in what a pass finds, from the root on, and what each body needs.
 use Rattle.std.proofs.Common.{ℕ, zero, suc, ◌<◌, ◌≤◌, sym, subst, arith}
-use Rattle.rb_frac.specs.Ops.{vneg}
+use Rattle.rb_frac.specs.Ops.{V3, vneg}
 use Rattle.rb_frac.specs.Frac.{Frac, Same, fracs}
 use Rattle.rb_frac.specs.Tables.{Vectors, nothing}
 use Rattle.rb_frac.specs.Spatial.{Motion, Spatials}
@@ -17,14 +17,14 @@ use Rattle.rb_joint.proofs.JointMotionLies.{spatials_same}
 use Rattle.rb_rnea.proofs.Enclosed.{then_lies, plus_lies, in_body_lies, product_lies, needed_lies}
 use Rattle.rb_rnea.proofs.Pass.{Given, Found, BodyWithin, IsWithin, IsPass, at_rest, against}
 
-none_lies : Spatials LiesIn (none fracs) at_rest
+pub none_lies : Spatials LiesIn (none fracs) at_rest
 none_lies =
     let o = to_intervals.zero in
     record { lin = record { x = o; y = o; z = o }; ang = record { x = o; y = o; z = o } }
 
-against_lies : (m : Mechanism Frac) (g : Given) → Vectors LiesIn m.gravity g.gravity → Spatials LiesIn (record { lin = vneg fracs m.gravity; ang = nothing (signs_of fractions) }) (against g.gravity)
+pub against_lies : (u : V3 Frac) (v : V3 Interval) → Vectors LiesIn u v → Spatials LiesIn (record { lin = vneg fracs u; ang = nothing (signs_of fractions) }) (against v)
 unfolding vneg
-against_lies m g h = record {
+against_lies u v h = record {
   lin = record { x = to_intervals.neg _ _ h.x; y = to_intervals.neg _ _ h.y; z = to_intervals.neg _ _ h.z };
   ang = none_lies.ang;
 }
@@ -56,7 +56,7 @@ module _ (shape : Shape) (m : Mechanism Frac) (g : Given) (w : Found) (s : Unkno
   acceleration_within zero i l h = absurd (omega arith)
   acceleration_within (suc n) zero l h =
       spatials_same (spatials_sym same_fractions solves.moves.world_acceleration)
-      (subst (λ (v : Motion Interval). Spatials LiesIn (record { lin = vneg fracs m.gravity; ang = nothing (signs_of fractions) }) v) (sym pass.world_a) (against_lies m g within.gravity))
+      (subst (λ (v : Motion Interval). Spatials LiesIn (record { lin = vneg fracs m.gravity; ang = nothing (signs_of fractions) }) v) (sym pass.world_a) (against_lies m.gravity g.gravity within.gravity))
   acceleration_within (suc n) (suc j) l h =
       let i = suc j in
       let there : HasBody shape (suc j) = record { from = omega arith; to = h } in

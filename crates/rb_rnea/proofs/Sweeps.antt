@@ -22,7 +22,7 @@ pub plus-none : (x : Spatial Frac) → Spatials Same (plus fracs x (none fracs))
 unfolding plus vadd
 plus-none x = identity (of_spatial x []) (plus expr (spatial 0) (none expr)) (spatial 0) (refl, refl, refl) (refl, refl, refl)
 
-plus-last : (x y z : Spatial Frac) → Spatials Same (plus fracs (plus fracs x y) z) (plus fracs x (plus fracs z y))
+pub plus-last : (x y z : Spatial Frac) → Spatials Same (plus fracs (plus fracs x y) z) (plus fracs x (plus fracs z y))
 unfolding plus vadd
 plus-last x y z =
     identity (of_spatial x (of_spatial y (of_spatial z [])))

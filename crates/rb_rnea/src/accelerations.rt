@@ -17,8 +17,8 @@ use rb_spatial::{
 use rb_tree::{Robot, State};
 use rb_work::{Capitals, Name, NameKind, RowFault, Work, named};
 
-// How the world accelerates.
-fn against_gravity(state: &State) -> Motion
+/// How the world accelerates in a row: against gravity, so that a body at rest needs what bears its weight.
+pub fn against_gravity(state: &State) -> Motion
     ensures { result ≡ world_acceleration state.now }
 {
     let g = state.gravity();
@@ -28,9 +28,10 @@ fn against_gravity(state: &State) -> Motion
     }
 }
 
-// How the motion over the joint changes as it moves along with the body.
+/// How the motion over the joint of a body changes as it moves along with the body, from the values `s` and `v` of a work: the value of `c[i]`. It is
+/// refused with `Size`.
 #[tactic(auto, unfolding(crate::specs::Accelerations::turning_by, crate::specs::Rates::motion_of))]
-fn moved_along(robot: &Robot, i: u32, work: &Work) -> Result<Motion, NumFault>
+pub fn moved_along(robot: &Robot, i: u32, work: &Work) -> Result<Motion, NumFault>
     requires room { work.now.bodies ≡ length robot.now.bodies }
     requires there { HasBody robot.now i }
     ensures exact { result ≡ turning_by robot.now.bodies i work.now }

@@ -62,9 +62,10 @@ fn body_speeds(robot: &Robot, state: &State, i: u32, work: &mut Work) -> Result<
     Ok(())
 }
 
-// The sweep over the bodies.
+/// The speeds of the joints and the velocities of the bodies of a row, from the root on: the values `s v` of a work that holds the places. The first
+/// name that is refused bears `Size`.
 #[tactic(auto, using(rb_sweep::proofs::SweepSteps::sweeps))]
-pub(crate) fn sweep_speeds(robot: &Robot, state: &State, work: &mut Work) -> Result<(), RowFault>
+pub fn sweep_speeds(robot: &Robot, state: &State, work: &mut Work) -> Result<(), RowFault>
     requires fits { Fits robot.now state.now }
     requires room { work.old.bodies ≡ length robot.now.bodies }
     ensures exact { Answers result (speeds_of robot.now state.now work.old) work.new }

@@ -18,7 +18,7 @@ use Rattle.rb_spatial.specs.Motions.{sum_vector}
 use Rattle.rb_spatial.specs.Inertias.{sum as sum_of_two, sum_table, sum_symmetric}
 use Rattle.rb_composite.specs.Composite.{no_inertia, inertia_sum}
 use Rattle.rb_composite.proofs.Exists.{inertias_same}
-use Rattle.rb_mass.proofs.Adding.{Sums}
+use Rattle.rb_composite.proofs.Adding.{Sums}
 
 -- ---- numbers
 pub add-nul : (x : Frac) → Same (add x fracs.nul) x

@@ -1,0 +1,9 @@
+pub mod Rules
+pub mod Numbers
+pub mod Borne
+pub mod Moving
+pub mod Bearing
+pub mod Torques
+pub mod Found
+pub mod Exists
+pub mod Solves
