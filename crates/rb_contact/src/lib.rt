@@ -1,0 +1,4 @@
+//! Forward dynamics of a tree of rigid bodies in intervals, by its mass table (Featherstone, Rigid Body Dynamics Algorithms, chapter 6).
+#![tactic(auto)]
+
+pub mod laws;
