@@ -1,1 +1,2 @@
 pub mod ForwardLies
+pub mod ForwardEncloses
