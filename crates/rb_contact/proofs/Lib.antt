@@ -1,2 +1,6 @@
 pub mod ForwardLies
 pub mod ForwardEncloses
+pub mod Unaccelerated
+pub mod Stays
+pub mod DrivingPass
+pub mod Assembled

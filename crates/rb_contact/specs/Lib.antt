@@ -1,1 +1,5 @@
+-- Read `Forward` first: what a row of forward dynamics holds, answers and encloses. `Driving` has what the mass table has to give, and `Laws` what its
+-- factors say of forward dynamics over exact fractions.
 pub mod Laws
+pub mod Driving
+pub mod Forward

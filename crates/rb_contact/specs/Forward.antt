@@ -1,0 +1,69 @@
+-- Forward dynamics of a row: the values that a work holds, what is refused first, the answer, and what the values enclose. Featherstone, Rigid Body
+-- Dynamics Algorithms, chapter 6.
+use Rattle.std.specs.Prelude.{◌≡◌, ◌↔◌, ℕ, ◌+◌, List, map, Result, Ok, Err}
+use Rattle.rb_num.specs.Interval.{Interval}
+use Rattle.rb_num.specs.Fraction.{LiesIn}
+use Rattle.rb_frac.specs.Frac.{Same, fracs}
+use Rattle.rb_sweep.specs.Sweep.{upward}
+use Rattle.rb_flat.specs.Choice.{Choice, IsChoice}
+use Rattle.rb_flat.specs.Dynamics.{HasOneSolution, SameUnknowns, SolvesForward, no_force}
+use Rattle.rb_work.specs.declared.names.RowFault.{RowFault}
+use Rattle.rb_work.specs.Path.{above}
+use Rattle.rb_work.specs.View.{View, columns_of, L_at, D_at, k_at, x_at}
+use Rattle.rb_tree.specs.Columns.{column_count}
+use Rattle.rb_tree.specs.Robot.{Tree, HasColumn}
+use Rattle.rb_tree.specs.Shape.{shape_of, brackets_of}
+use Rattle.rb_tree.specs.State.{Row, state_brackets}
+use Rattle.rb_tree.specs.Places.{IsFor}
+use Rattle.rb_rnea.specs.Dynamics.{AreDynamics, IsRefused, unaccelerated}
+use Rattle.rb_mass.specs.Mass.{AreMass, IsMassRefused}
+use Rattle.rb_factor.specs.Factor.{HoldsFactors, RefusesFactor}
+use Rattle.rb_factor.specs.Solve.{HoldsSolution, IsSolveRefused}
+use Rattle.rb_contact.specs.Driving.{AreDriving, IsDrivingRefused}
+
+-- ---- values
+-- the bias of the row, and the factors of a mass table that stood in their place
+pub record AreFactored (tree : Tree) (row : Row) (w : View) : Type 0 where
+  pub room : IsFor tree w
+  pub bias : AreDynamics tree (unaccelerated row) w
+  pub mass : List Interval
+  pub table : AreMass tree (record w { packed = mass })
+  pub factors : HoldsFactors (record w { packed = mass }) w
+
+-- and what these factors find for the torques less the bias
+pub record AreForward (tree : Tree) (row : Row) (w : View) : Type 0 where
+  pub factored : AreFactored tree row w
+  pub driving : AreDriving tree row w
+  pub solution : HoldsSolution (record w { w = w.k }) w
+
+-- ---- refusals
+-- the first of the parts that is refused, where the values of those before it are there
+pub data IsForwardRefused (tree : Tree) (row : Row) (e : RowFault) : Type 0 where
+  in_bias : IsRefused tree (unaccelerated row) e → IsForwardRefused tree row e
+  in_mass : (w : View) → IsFor tree w → AreDynamics tree (unaccelerated row) w → IsMassRefused tree w e → IsForwardRefused tree row e
+  in_factors : (w : View) → IsFor tree w → AreDynamics tree (unaccelerated row) w → AreMass tree w → RefusesFactor w e → IsForwardRefused tree row e
+  in_driving : (w : View) → AreFactored tree row w → IsDrivingRefused tree row w e → IsForwardRefused tree row e
+  in_solution : (w : View) → AreFactored tree row w → AreDriving tree row w → IsSolveRefused (columns_of w) (above w.up) (L_at w) (D_at w) (k_at w) e →
+      IsForwardRefused tree row e
+
+-- ---- answers
+-- the accelerations of the columns
+abbrev pub accelerations_in : Tree → View → List Interval
+accelerations_in tree w = map (x_at w) (upward 1 (column_count tree.bodies + 1))
+
+-- ---- what they enclose
+-- the equations of motion have exactly one solution under the torques of the choice, and the accelerations of its joints lie in x
+pub record ForwardLies (tree : Tree) (w : View) (c : Choice) : Type 0 where
+  pub one : HasOneSolution (SameUnknowns Same (shape_of tree)) (SolvesForward (shape_of tree) c (no_force fracs))
+  pub lies : (k : ℕ) → HasColumn tree k → LiesIn (one.solution.joint_acceleration k) (x_at w k)
+
+-- so for each choice within the brackets of the robot and of the row
+pub record EnclosesForward (tree : Tree) (row : Row) (w : View) : Type 0 where
+  pub at : (c : Choice) → IsChoice (brackets_of tree) (state_brackets row) c → ForwardLies tree w c
+
+-- ---- laws
+-- there is one answer, whatever a work held: the same accelerations, or one refusal, and not both
+pub record HasOneForward (tree : Tree) (row : Row) : Type 0 where
+  pub values : (u w : View) → AreForward tree row u → AreForward tree row w → accelerations_in tree u ≡ accelerations_in tree w
+  pub either : (w : View) (e : RowFault) → AreForward tree row w → IsForwardRefused tree row e → ⊥
+  pub refusal : (d e : RowFault) → IsForwardRefused tree row d → IsForwardRefused tree row e → d ≡ e
