@@ -93,7 +93,6 @@ refused_from n up L D r s e same (IsSolveRefused.by_reduce h) =
       until = record { first = λ c k. h.until.first c k ∙ same c k; each = h.until.each };
       ancestor = h.ancestor;
       is_ancestor = h.is_ancestor;
-      fault = h.fault;
       refused = h.refused;
       named = h.named;
     })

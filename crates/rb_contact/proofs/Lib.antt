@@ -4,3 +4,4 @@ pub mod Unaccelerated
 pub mod Stays
 pub mod DrivingPass
 pub mod Assembled
+pub mod RowEncloses

@@ -1,0 +1,148 @@
+-- The one solution of forward dynamics of each choice lies in the values of a row.
+use Rattle.std.proofs.Common.{◌≡◌, ℕ, zero, suc, ◌+◌, ◌-◌, ◌<◌, ◌≤◌, max, min, Bool, true, false, if◌then◌else◌, List, length, Ok, inl, inr, refl, sym, ap, ◌∙◌, subst, arith}
+use Rattle.std.proofs.lemmas.Bool.{cases_lt}
+use Rattle.std.proofs.lemmas.Int.{ints}
+use Rattle.rb_result.proofs.Results.{told-ok}
+use Rattle.rb_frac.specs.Frac.{Frac, Same, fracs, whole}
+use Rattle.rb_frac.specs.Spatial.{Places}
+use Rattle.rb_num.specs.Interval.{Interval, zero_interval}
+use Rattle.rb_num.specs.Refusing.{iv_sub}
+use Rattle.rb_num.specs.Fraction.{LiesIn}
+use Rattle.rb_elimination.specs.Paths.{IsColumn, IsZeroOffPaths}
+use Rattle.rb_elimination.specs.Paths as P
+use Rattle.rb_flat.specs.Choice.{Choice, IsChoice}
+use Rattle.rb_flat.specs.Mechanism.{Mechanism, mechanism_of}
+use Rattle.rb_flat.specs.Dynamics.{IsMassTable, no_force}
+use Rattle.rb_work.specs.Path.{above, Ascends, IsOn, is_on}
+use Rattle.rb_work.specs.View.{View, columns_of, X_at, T_at, M_at, mass_at, k_at, x_at}
+use Rattle.rb_work.proofs.PathLaws.{on_from_test, is_on_true, on_least, on_most}
+use Rattle.rb_tree.specs.Columns.{column_count}
+use Rattle.rb_tree.specs.Robot.{Tree, HasBody, HasColumn, AreBodies}
+use Rattle.rb_tree.specs.Shape.{shape_of, brackets_of}
+use Rattle.rb_tree.specs.State.{Row, at_place, state_brackets}
+use Rattle.rb_tree.specs.Places.{IsFor}
+use Rattle.rb_tree.proofs.Shapes.{mimics_fit}
+use Rattle.rb_tree.proofs.Spans.{ups_below}
+use Rattle.rb_tree.proofs.ColumnsFit.{columns_fit, parents_first}
+use Rattle.rb_tree.proofs.PlaceEncloses.{places_enclose}
+use Rattle.rb_rnea.specs.Dynamics.{unaccelerated}
+use Rattle.rb_rnea.proofs.DynamicsEnclose.{dynamics_enclose}
+use Rattle.rb_mass.specs.Encloses.{EntriesLie, MassLies, PlacesLie, MassEncloses}
+use Rattle.rb_factor.specs.Laws.{NumbersLie, TableLies, AreWithin, EnclosesFactors, EnclosesSolution}
+use Rattle.rb_factor.proofs.Paths.{listed_on, on_listed, regular}
+use Rattle.rb_contact.specs.Driving.{k_rule, AreDriving}
+use Rattle.rb_contact.specs.Forward.{AreFactored, AreForward, ForwardLies, EnclosesForward}
+use Rattle.rb_contact.proofs.Unaccelerated.{still, still_chosen}
+use Rattle.rb_contact.proofs.ForwardEncloses.{driving, driving_lies, accelerations_lie}
+
+-- ---- the columns of a work
+pub ascends_for : (tree : Tree) (w : View) → AreBodies tree.bodies → IsFor tree w → Ascends w.up
+ascends_for tree w kept room zero low high = absurd (omega arith)
+ascends_for tree w kept room (suc k) low high =
+    let l : k < length w.up = omega arith in
+    let below = ups_below tree w.up room.up kept.parents k l in
+    omega arith
+
+module _ (up : List ℕ) (ascends : Ascends up) where
+  -- a column and one on its path are in descending order
+  in_order : (c d : ℕ) → IsOn up c d → (max c d ≡ c) × (min c d ≡ d)
+  in_order c d on = let most : d ≤ c = on_most up ascends c d on in (omega arith, omega arith)
+
+  -- off a path there is no pair
+  not_on : (c d : ℕ) → ¬ P.IsOn (above up) c d → ¬ P.IsOn (above up) d c → is_on up (max c d) (min c d) ≡ false
+  not_on c d off back = go (is_on up (max c d) (min c d)) refl
+    where
+      which : IsOn up (max c d) (min c d) → ⊥
+      which on =
+          elim (cases_lt c d) [
+            | inl l ↦
+                let m : max c d ≡ d = omega arith in
+                let n : min c d ≡ c = omega arith in
+                back (on_listed up ascends d c (subst (λ (b : ℕ). IsOn up d b) n (subst (λ (b : ℕ). IsOn up b (min c d)) m on)))
+            | inr g ↦
+                let m : max c d ≡ c = omega arith in
+                let n : min c d ≡ d = omega arith in
+                off (on_listed up ascends c d (subst (λ (b : ℕ). IsOn up c b) n (subst (λ (b : ℕ). IsOn up b (min c d)) m on)))
+          ]
+
+      go : (b : Bool) → is_on up (max c d) (min c d) ≡ b → is_on up (max c d) (min c d) ≡ false
+      go true e = absurd (which (on_from_test up (max c d) (min c d) e))
+      go false e = e
+
+-- what lies in zero alone is zero
+zero_alone : (x : Frac) → LiesIn x zero_interval → Same x fracs.nul
+unfolding whole
+zero_alone x h = let low = h.above in let high = h.below in omega (arith, ints)
+
+module _ (tree : Tree) (table : ℕ → ℕ → Frac) (w : View) (ascends : Ascends w.up) (columns : length w.up ≡ column_count tree.bodies) (lies : EntriesLie tree table w) where
+  robot_column : (c : ℕ) → IsColumn (columns_of w) c → HasColumn tree c
+  robot_column c there = record { from = there.from; to = omega (arith, there.to, columns) }
+
+  -- a pair of columns that are on no path has nothing
+  pub sparse : IsZeroOffPaths (columns_of w) (above w.up) table
+  sparse c d i j off back =
+      let none : mass_at w c d ≡ zero_interval = ap (λ (b : Bool). if b then M_at w c d else zero_interval) (not_on w.up ascends c d off back) in
+      zero_alone (table c d) (subst (λ (v : Interval). LiesIn (table c d) v) none (lies c d (robot_column c i) (robot_column d j)))
+
+  -- the others have what the table has
+  pub on_paths : TableLies (columns_of w) (above w.up) table (M_at w)
+  on_paths c d there on =
+      let listed : IsOn w.up c d = listed_on w.up ascends c d there.from on in
+      let least : 1 ≤ d = on_least w.up ascends c d listed in
+      let most : d ≤ c = on_most w.up ascends c d listed in
+      let order = in_order w.up ascends c d listed in
+      let test : is_on w.up (max c d) (min c d) ≡ true =
+      subst (λ (a : ℕ). is_on w.up a (min c d) ≡ true) (sym order.0) (subst (λ (b : ℕ). is_on w.up c b ≡ true) (sym order.1) (is_on_true w.up ascends c d listed)) in
+      let some : mass_at w c d ≡ M_at w c d = ap (λ (b : Bool). if b then M_at w c d else zero_interval) test in
+      subst (λ (v : Interval). LiesIn (table c d) v) some
+      (lies c d (robot_column c there) (record { from = least; to = let high : c ≤ columns_of w = there.to in omega (arith, columns) }))
+
+-- ---- a row
+module _ (tree : Tree) (row : Row) (w : View) (kept : AreBodies tree.bodies) (are : AreForward tree row w) (by_mass : MassEncloses)
+    (by_factors : EnclosesFactors (record w { packed = are.factored.mass }) w) (by_solution : EnclosesSolution (record w { w = w.k }) w) where
+  abbrev held : View
+  held = record w { packed = are.factored.mass }
+
+  abbrev columns : length w.up ≡ column_count tree.bodies
+  columns = are.factored.room.up.count
+
+  ascends : Ascends w.up
+  ascends = ascends_for tree w kept are.factored.room
+
+  k_is : (c : ℕ) → IsColumn (columns_of w) c → iv_sub (at_place row.tau (c - 1)) (T_at w c) ≡ Ok (k_at w c)
+  unfolding k_rule
+  k_is c there = told-ok _ _ _ (are.driving.each_k c (record { from = there.from; to = omega (arith, there.to, columns) }))
+
+  module _ (c : Choice) (chosen : IsChoice (brackets_of tree) (state_brackets row) c) where
+    abbrev m : Mechanism Frac
+    m = mechanism_of (shape_of tree) c
+
+    places : PlacesLie tree (mechanism_of (shape_of tree) c) held
+    unfolding mechanism_of
+    places i has = (places_enclose tree (unaccelerated row) w kept are.factored.bias.places).at (still c) i (still_chosen tree row c chosen) has
+
+    mass_lies : MassLies tree (mechanism_of (shape_of tree) c) held
+    mass_lies =
+        (by_mass tree held kept (record { bodies = are.factored.room.bodies; full = are.factored.room.full; up = are.factored.room.up }) are.factored.table).at row c chosen places
+
+    torque_lies : NumbersLie (columns_of w) m.torque (λ k. at_place row.tau (k - 1))
+    unfolding mechanism_of state_brackets
+    torque_lies k there = (chosen.columns k (record { from = there.from; to = omega (arith, there.to, columns) })).torque
+
+    forward_lies : ForwardLies tree w c
+    unfolding mechanism_of
+    forward_lies =
+        let shape = shape_of tree in
+        let bias = (dynamics_enclose tree (unaccelerated row) w kept are.factored.bias).at (still c) (still_chosen tree row c chosen) in
+        let table = mass_lies.exists.0 in
+        let lies = mass_lies.lies table mass_lies.exists.1 in
+        let right = driving_lies (columns_of w) m bias.one.solution (T_at w) (λ k. at_place row.tau (k - 1)) (k_at w)
+        (λ k there. bias.lies.torque k (record { from = there.from; to = omega (arith, there.to, columns) })) torque_lies k_is in
+        let within = accelerations_lie shape m (no_force fracs) table bias.one.solution (parents_first tree kept) (mimics_fit tree kept) (columns_fit tree kept) mass_lies.exists.1 bias.one.solves
+        (above w.up) (x_at w) (AreWithin w) (columns_of w) columns (regular w.up ascends) (sparse tree table held ascends columns lies) (λ L D h. h.pivots)
+        (λ t L D f. by_factors.at table t L D f (on_paths tree table held ascends columns lies))
+        (λ L D y h f. by_solution.found L D (driving m bias.one.solution) y h.factors h.diagonal right f) in
+        record { one = within.one; lies = λ k there. within.lies k (record { from = there.from; to = omega (arith, there.to, columns) }) }
+
+  pub row_encloses : EnclosesForward tree row w
+  row_encloses = record { at = λ c chosen. forward_lies c chosen }
