@@ -5,3 +5,4 @@ pub mod Stays
 pub mod DrivingPass
 pub mod Assembled
 pub mod RowEncloses
+pub mod OneForward

@@ -45,7 +45,7 @@ ascends_for tree w kept room (suc k) low high =
 
 module _ (up : List ℕ) (ascends : Ascends up) where
   -- a column and one on its path are in descending order
-  in_order : (c d : ℕ) → IsOn up c d → (max c d ≡ c) × (min c d ≡ d)
+  pub in_order : (c d : ℕ) → IsOn up c d → (max c d ≡ c) × (min c d ≡ d)
   in_order c d on = let most : d ≤ c = on_most up ascends c d on in (omega arith, omega arith)
 
   -- off a path there is no pair
