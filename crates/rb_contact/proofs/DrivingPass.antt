@@ -7,7 +7,7 @@ use Rattle.rb_result.specs.Steps.{◌>>=◌}
 use Rattle.rb_result.proofs.Results.{same_ok, then-ok, then-err, not-both}
 use Rattle.rb_sweep.specs.Sweep.{sweep, upward, counting_up}
 use Rattle.rb_work.specs.declared.names.RowFault.{RowFault}
-use Rattle.rb_work.specs.View.{View, IsSized, k_at, w_at}
+use Rattle.rb_work.specs.View.{View, k_at, w_at}
 use Rattle.rb_tree.specs.Columns.{column_count}
 use Rattle.rb_tree.specs.Robot.{Tree, HasColumn}
 use Rattle.rb_tree.specs.State.{Row}
@@ -40,6 +40,7 @@ module _ (row : Row) where
 
   record Driven (lo hi : ℕ) (w t : View) : Type 0 where
     rest : t ≡ record w { k = t.k; w = t.w }
+    long : length t.w ≡ length w.w
     before_k : (c : ℕ) → c < lo → k_at t c ≡ k_at w c
     before_w : (c : ℕ) → c < lo → w_at t c ≡ w_at w c
     each_k : (c : ℕ) → lo ≤ c → c < hi → k_rule row c w ≡ Ok (k_at t c)
@@ -52,6 +53,7 @@ module _ (row : Row) where
       let own_w : w_at t lo ≡ k = h.before_w lo (omega arith) ∙ get_or-set_same w.w lo k zero_interval in_w in
       record {
         rest = h.rest;
+        long = h.long ∙ length-set w.w lo k;
         before_k = λ c l. h.before_k c (omega arith) ∙ get_or-set_other w.k lo c k zero_interval (λ same. omega (arith, same));
         before_w = λ c l. h.before_w c (omega arith) ∙ get_or-set_other w.w lo c k zero_interval (λ same. omega (arith, same));
         each_k = λ c low high. elim (cases_lt lo c) [
@@ -68,7 +70,7 @@ module _ (row : Row) where
   driven lo zero w t in_k in_w e =
       let same : w ≡ t = same_ok {E = RowFault} w t e in
       subst (λ (u : View). Driven lo (lo + 0) w u) same
-      (record { rest = refl; before_k = λ c l. refl; before_w = λ c l. refl; each_k = λ c low high. absurd (omega arith); each_w = λ c low high. absurd (omega arith) })
+      (record { rest = refl; long = refl; before_k = λ c l. refl; before_w = λ c l. refl; each_k = λ c low high. absurd (omega arith); each_w = λ c low high. absurd (omega arith) })
   driven lo (suc n) w t in_k in_w e =
       let first = then-ok (driving_step row lo w) (λ u. sweep (driving_step row) (counting_up (lo + 1) n) u) t e in
       let value = step_found lo w first.0 first.1 in
@@ -112,19 +114,19 @@ module _ (row : Row) where
   -- ---- the columns of a robot
   pub record DrivingFound (tree : Tree) (w t : View) : Type 0 where
     pub rest : t ≡ record w { k = t.k; w = t.w }
+    pub long : length t.w ≡ length w.w
     pub driving : AreDriving tree row t
     pub right : IsRightSide tree t
 
-  pub driving_found : (tree : Tree) (w t : View) → IsSized w → length w.up ≡ column_count tree.bodies → driven_of tree row w ≡ Ok t → DrivingFound tree w t
+  pub driving_found : (tree : Tree) (w t : View) → length w.k ≡ column_count tree.bodies + 1 → length w.w ≡ column_count tree.bodies + 1 → driven_of tree row w ≡ Ok t → DrivingFound tree w t
   unfolding upward
-  driving_found tree w t sized columns e =
+  driving_found tree w t long_k long_w e =
       let n = column_count tree.bodies in
-      let long_k = sized.k in
-      let long_w = sized.w in
       let h = driven 1 (n + 1 - 1) w t (omega arith) (omega arith) e in
       let same : (c : ℕ) → k_rule row c t ≡ k_rule row c w = λ c. ap (λ (u : View). k_rule row c u) h.rest ∙ rule_stays c w t.k t.w in
       record {
         rest = h.rest;
+        long = h.long;
         driving = record { each_k = λ c there. same c ∙ h.each_k c there.from (omega (arith, there.to)) };
         right = record { each_w = λ c there. h.each_w c there.from (omega (arith, there.to)) };
       }

@@ -6,3 +6,5 @@ pub mod DrivingPass
 pub mod Assembled
 pub mod RowEncloses
 pub mod OneForward
+pub mod Sized
+pub mod ForwardAnswer

@@ -4,22 +4,26 @@ use Rattle.std.specs.Prelude.{◌≡◌, ◌↔◌, ℕ, ◌+◌, List, map, Res
 use Rattle.rb_num.specs.Interval.{Interval}
 use Rattle.rb_num.specs.Fraction.{LiesIn}
 use Rattle.rb_frac.specs.Frac.{Same, fracs}
+use Rattle.rb_result.specs.Steps.{◌>>=◌}
 use Rattle.rb_sweep.specs.Sweep.{upward}
+use Rattle.rb_sweep.specs.Naming.{run}
 use Rattle.rb_flat.specs.Choice.{Choice, IsChoice}
 use Rattle.rb_flat.specs.Dynamics.{HasOneSolution, SameUnknowns, SolvesForward, no_force}
 use Rattle.rb_work.specs.declared.names.RowFault.{RowFault}
 use Rattle.rb_work.specs.Path.{above}
-use Rattle.rb_work.specs.View.{View, columns_of, L_at, D_at, k_at, x_at}
+use Rattle.rb_work.specs.View.{View, blank_of, columns_of, L_at, D_at, k_at, x_at}
+use Rattle.rb_work.specs.Place.{names}
 use Rattle.rb_tree.specs.Columns.{column_count}
 use Rattle.rb_tree.specs.Robot.{Tree, HasColumn}
 use Rattle.rb_tree.specs.Shape.{shape_of, brackets_of}
 use Rattle.rb_tree.specs.State.{Row, state_brackets}
 use Rattle.rb_tree.specs.Places.{IsFor}
-use Rattle.rb_rnea.specs.Dynamics.{AreDynamics, IsRefused, unaccelerated}
-use Rattle.rb_mass.specs.Mass.{AreMass, IsMassRefused}
+use Rattle.rb_rnea.specs.Dynamics.{AreDynamics, IsRefused, unaccelerated, rule, order, extent_for}
+use Rattle.rb_mass.specs.Mass.{AreMass, IsMassRefused, naming, order as mass_order}
 use Rattle.rb_factor.specs.Factor.{HoldsFactors, RefusesFactor}
 use Rattle.rb_factor.specs.Solve.{HoldsSolution, IsSolveRefused}
-use Rattle.rb_contact.specs.Driving.{AreDriving, IsDrivingRefused}
+use Rattle.rb_factor.specs.Sweeps.{factor_of, reduce_of, divide_of, substitute_of}
+use Rattle.rb_contact.specs.Driving.{AreDriving, IsDrivingRefused, driven_of}
 
 -- ---- values
 -- the bias of the row, and the factors of a mass table that stood in their place
@@ -51,6 +55,28 @@ pub data IsForwardRefused (tree : Tree) (row : Row) (e : RowFault) : Type 0 wher
 abbrev pub accelerations_in : Tree → View → List Interval
 accelerations_in tree w = map (x_at w) (upward 1 (column_count tree.bodies + 1))
 
+-- the factors of the table in its place
+abbrev pub factored_of : View → Result View RowFault
+factored_of w = factor_of w.up w.packed >>= λ factors. Ok (record w { packed = factors })
+
+-- what they find for the right side
+abbrev pub solved_of : View → Result View RowFault
+solved_of w =
+    reduce_of w.up w.packed w.w >>= λ right.
+    divide_of w.up w.packed right w.z >>= λ quotients.
+    substitute_of w.up w.packed quotients w.x >>= λ numbers.
+    Ok (record w { w = right; z = quotients; x = numbers })
+
+-- from zeros each part in turn, up to the first that is refused
+unfoldable pub forward_of : Tree → Row → Result (List Interval) RowFault
+forward_of tree row =
+    run (names (rule tree (unaccelerated row)) (order tree)) (order tree) (blank_of (extent_for tree)) >>= λ u.
+    run (naming tree) (mass_order tree) u >>= λ m.
+    factored_of m >>= λ f.
+    driven_of tree row f >>= λ d.
+    solved_of d >>= λ w.
+    Ok (accelerations_in tree w)
+
 -- ---- what they enclose
 -- the equations of motion have exactly one solution under the torques of the choice, and the accelerations of its joints lie in x
 pub record ForwardLies (tree : Tree) (w : View) (c : Choice) : Type 0 where
@@ -67,3 +93,12 @@ pub record HasOneForward (tree : Tree) (row : Row) : Type 0 where
   pub values : (u w : View) → AreForward tree row u → AreForward tree row w → accelerations_in tree u ≡ accelerations_in tree w
   pub either : (w : View) (e : RowFault) → AreForward tree row w → IsForwardRefused tree row e → ⊥
   pub refusal : (d e : RowFault) → IsForwardRefused tree row d → IsForwardRefused tree row e → d ≡ e
+
+-- what the answer means: accelerations of such values, or a refusal of such a part
+pub record ForwardMeans (tree : Tree) (row : Row) : Type 0 where
+  pub values : (numbers : List Interval) → (forward_of tree row ≡ Ok numbers) ↔ ((w : View) × AreForward tree row w × (accelerations_in tree w ≡ numbers))
+  pub refused : (e : RowFault) → (forward_of tree row ≡ Err e) ↔ IsForwardRefused tree row e
+
+-- all such values enclose the one solution of each choice
+pub record ForwardEncloses (tree : Tree) (row : Row) : Type 0 where
+  pub values : (w : View) → AreForward tree row w → EnclosesForward tree row w

@@ -7,9 +7,6 @@ use Rattle.rb_contact.specs.Forward.{IsForwardRefused}
 use Rattle.rb_contact.proofs.Assembled.{room_same, bias_stays, factored_from}
 use Rattle.rb_contact.proofs.row.factored.Goals as goal
 
-pub composite-requires-clause-stub : goal.composite-requires-clause-stub
-composite-requires-clause-stub c = ?
-
 pub factor-requires : goal.factor-requires
 factor-requires c = ?
 
