@@ -379,10 +379,10 @@ module _ (tree : Tree) (row : Row) (kept : AreBodies tree.bodies) where
   holds w h (T_of c) k = h.torques.each_T c k
   holds w h _ k = absurd k
 
-  row_found : (w t : View) → sizes_of w ≡ sizes_for (extent_of w) → HasRoom tree (extent_of w) → run_of tree row w ≡ Ok t → AreDynamics tree row t
+  pub row_found : (w t : View) → sizes_of w ≡ sizes_for (extent_of w) → HasRoom tree (extent_of w) → run_of tree row w ≡ Ok t → AreDynamics tree row t
   row_found w t f room e = are_dynamics t (found _ _ (ordered (call tree row (extent_of w)) (is_call tree row (extent_of w) kept room)) w t f e).holds
 
-  row_refused : (w : View) (e : RowFault) → sizes_of w ≡ sizes_for (extent_of w) → HasRoom tree (extent_of w) → run_of tree row w ≡ Err e → IsRefused tree row e
+  pub row_refused : (w : View) (e : RowFault) → sizes_of w ≡ sizes_for (extent_of w) → HasRoom tree (extent_of w) → run_of tree row w ≡ Err e → IsRefused tree row e
   row_refused w e f room r =
       let h = refusal _ _ (ordered (call tree row (extent_of w)) (is_call tree row (extent_of w) kept room)) w e f r in
       record { values = h.reached; first = h.first }
