@@ -6,7 +6,7 @@ use Rattle.rb_elimination.specs.Solving.{IsReduced}
 use Rattle.rb_work.specs.declared.names.RowFault.{RowFault}
 use Rattle.rb_work.specs.Path.{above}
 use Rattle.rb_work.specs.View.{View, extent_of, columns_of, L_at, D_at, w_at, k_at}
-use Rattle.rb_tree.specs.Columns.{column_count, AreUps}
+use Rattle.rb_tree.specs.Columns.{AreUps}
 use Rattle.rb_tree.specs.Robot.{Tree}
 use Rattle.rb_tree.specs.State.{Row}
 use Rattle.rb_tree.specs.Places.{IsFor}

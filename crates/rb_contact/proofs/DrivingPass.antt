@@ -1,15 +1,14 @@
 -- What the sweep over the columns leaves, and where it is refused.
-use Rattle.std.proofs.Common.{◌≡◌, ℕ, zero, suc, ◌+◌, ◌-◌, ◌<◌, ◌≤◌, List, [], ◌∷◌, length, get_or, slice_set, Result, Ok, Err, inl, inr, refl, sym, ap, ◌∙◌, subst, arith}
+use Rattle.std.proofs.Common.{◌≡◌, ℕ, zero, suc, ◌+◌, ◌-◌, ◌<◌, ◌≤◌, List, length, slice_set, Result, Ok, Err, inl, inr, refl, sym, ap, ◌∙◌, subst, arith}
 use Rattle.std.proofs.lemmas.List.{get_or-set_same, get_or-set_other, length-set}
 use Rattle.std.proofs.lemmas.Bool.{cases_lt}
 use Rattle.rb_num.specs.Interval.{Interval, zero_interval}
-use Rattle.rb_result.specs.Steps.{◌>>=◌}
 use Rattle.rb_result.proofs.Results.{same_ok, then-ok, then-err, not-both}
 use Rattle.rb_sweep.specs.Sweep.{sweep, upward, counting_up}
 use Rattle.rb_work.specs.declared.names.RowFault.{RowFault}
 use Rattle.rb_work.specs.View.{View, k_at, w_at}
 use Rattle.rb_tree.specs.Columns.{column_count}
-use Rattle.rb_tree.specs.Robot.{Tree, HasColumn}
+use Rattle.rb_tree.specs.Robot.{Tree}
 use Rattle.rb_tree.specs.State.{Row}
 use Rattle.rb_contact.specs.Driving.{k_rule, AreDriving, IsRightSide, IsDrivingRefused, driving_step, driven_of}
 

@@ -1,31 +1,28 @@
 -- What forward dynamics finds from zeros, and what its answer means.
-use Rattle.std.proofs.Common.{◌≡◌, ◌⊎◌, ◌↔◌, ℕ, ◌+◌, ◌-◌, ◌<◌, ◌≤◌, max, min, List, length, get_or, map, Result, Ok, Err, OnOk, IfErr, inl, inr, refl, sym, ap, ◌∙◌, subst, arith}
-use mathlib.Core.Path.{ap₂}
+use Rattle.std.proofs.Common.{◌≡◌, ℕ, ◌+◌, List, length, Result, Ok, Err, OnOk, IfErr, inl, inr, refl, sym, ap, ◌∙◌, subst, arith}
 use Rattle.std.proofs.lemmas.Option.{slice_get-get_or}
 use Rattle.std.proofs.lemmas.List.{length-map, get_or-map}
-use Rattle.std.specs.Prelude.{slice_get, Some}
-use Rattle.rb_num.specs.Interval.{Interval, zero_interval}
+use Rattle.std.specs.Prelude.{Some}
+use Rattle.rb_num.specs.Interval.{Interval}
 use Rattle.rb_result.specs.Steps.{◌>>=◌}
 use Rattle.rb_result.proofs.Results.{same_ok, then-ok, then-err, not-both}
 use Rattle.rb_sweep.specs.Sweep.{Answers, upward}
 use Rattle.rb_sweep.specs.Naming.{run}
 use Rattle.rb_sweep.proofs.NamingLaws.{found}
 use Rattle.rb_sweep.proofs.Climbing.{length-upward, upward_at}
-use Rattle.rb_elimination.specs.Paths.{IsColumn}
-use Rattle.rb_elimination.specs.Paths as P
 use Rattle.rb_work.specs.declared.names.RowFault.{RowFault}
-use Rattle.rb_work.specs.Path.{above, Ascends, IsOn}
+use Rattle.rb_work.specs.Path.{Ascends}
 use Rattle.rb_work.specs.Place.{names}
-use Rattle.rb_work.specs.View.{View, Extent, IsExtent, IsSized, extent_of, blank_of, columns_of, packed_at, M_at}
+use Rattle.rb_work.specs.View.{View, Extent, IsExtent, IsSized, extent_of, blank_of}
 use Rattle.rb_work.proofs.PlaceLaws.{ordered}
-use Rattle.rb_work.proofs.Sizes.{sizes_of, sizes_for, blank_for, room_for}
+use Rattle.rb_work.proofs.Sizes.{blank_for, room_for}
 use Rattle.rb_tree.specs.Columns.{column_count, up_of, AreUps}
 use Rattle.rb_tree.specs.Robot.{Tree, AreBodies}
 use Rattle.rb_tree.specs.State.{Row}
 use Rattle.rb_tree.specs.Places.{IsFor}
-use Rattle.rb_rnea.specs.Dynamics.{AreDynamics, IsRefused, unaccelerated, rule, order, extent_for}
+use Rattle.rb_rnea.specs.Dynamics.{AreDynamics, unaccelerated, rule, order, extent_for}
 use Rattle.rb_rnea.proofs.RowPass.{HasRoom, call, is_call, row_found, row_refused}
-use Rattle.rb_mass.specs.Mass.{AreMass, IsMassRefused, naming, order as mass_order}
+use Rattle.rb_mass.specs.Mass.{AreMass, naming, order as mass_order}
 use Rattle.rb_mass.specs.Table.{ups_of}
 use Rattle.rb_mass.proofs.Ways.{ups_ascend}
 use Rattle.rb_mass.proofs.Runs.{sweeps_run}
@@ -33,25 +30,18 @@ use Rattle.rb_mass.proofs.MassPass as Mass
 use Rattle.rb_mass.proofs.Told.{room_of, mass_found, mass_refused}
 use Rattle.rb_factor.specs.Factor.{HoldsFactors, RefusesFactor}
 use Rattle.rb_factor.specs.Solve.{HoldsDivisors, HoldsSolution, IsSolveRefused, RefusesSolve}
-use Rattle.rb_factor.specs.Sweeps.{entry_at, number_at, factor_of, reduce_of, divide_of, substitute_of}
-use Rattle.rb_factor.proofs.Paths.{listed_on}
-use Rattle.rb_factor.proofs.Eliminated.{factors_done, factors_refused, factors_of, divisors_of}
+use Rattle.rb_factor.specs.Sweeps.{number_at, factor_of, reduce_of, divide_of, substitute_of}
+use Rattle.rb_factor.proofs.Answered.{factor_values, factor_refused}
 use Rattle.rb_factor.proofs.Reducing.{reduced, reduction_refused}
 use Rattle.rb_factor.proofs.Finding.{divided, division_refused, substituted, substitution_refused}
-use Rattle.rb_contact.specs.Driving.{AreDriving, IsRightSide, driven_of}
+use Rattle.rb_contact.specs.Driving.{driven_of}
 use Rattle.rb_contact.specs.Forward.{AreFactored, AreForward, IsForwardRefused, accelerations_in, factored_of, solved_of, forward_of, HasOneForward, ForwardMeans}
 use Rattle.rb_contact.proofs.Sized.{sized_from}
-use Rattle.rb_contact.proofs.RowEncloses.{ascends_for, in_order}
+use Rattle.rb_contact.proofs.OneForward.{has_one_forward}
 use Rattle.rb_contact.proofs.DrivingPass.{DrivingFound, driving_found, driving_refused}
 use Rattle.rb_contact.proofs.Assembled.{room_same, bias_stays, factored_from, factored_driven, divisors_driven, forward_from, solution_refused}
 
 -- ---- the steps over a work
--- a table and its factors have a place for each pair
-same_entries : (m : View) → Ascends m.up → (c d : ℕ) → IsColumn (length m.up) c → P.IsOn (above m.up) c d → entry_at m.up m.packed c d ≡ M_at m c d
-same_entries m ascends c d there on =
-    let order = in_order m.up ascends c d (listed_on m.up ascends c d there.from on) in
-    ap₂ (λ (a b : ℕ). packed_at m a b) (sym order.0) (sym order.1)
-
 record FactorsFound (m f : View) : Type 0 where
   rest : f ≡ record m { packed = f.packed }
   holds : HoldsFactors m f
@@ -60,22 +50,13 @@ factors_found : (m f : View) → IsSized m → factored_of m ≡ Ok f → Factor
 factors_found m f sized e =
     let h = then-ok (factor_of m.up m.packed) (λ t. Ok (record m { packed = t })) f e in
     let same : record m { packed = h.0 } ≡ f = same_ok {E = RowFault} (record m { packed = h.0 }) f h.2 in
-    let done = factors_done m.up sized.extent.ascends m.packed h.0 h.1 sized.packed (M_at m) (same_entries m sized.extent.ascends) in
-    subst (λ (v : View). FactorsFound m v) same
-    (record {
-      rest = refl;
-      holds = record {
-        table = done.0;
-        are = factors_of (length m.up) (above m.up) (M_at m) done.0 (entry_at m.up h.0) (λ c. entry_at m.up h.0 c c) done.1;
-        divisors = divisors_of (length m.up) (above m.up) (M_at m) done.0 (entry_at m.up h.0) (λ c. entry_at m.up h.0 c c) done.1;
-      };
-    })
+    subst (λ (v : View). FactorsFound m v) same (record { rest = refl; holds = factor_values m sized h.0 h.1 })
 
 factors_not_found : (m : View) (e : RowFault) → IsSized m → factored_of m ≡ Err e → RefusesFactor m e
 factors_not_found m e sized r =
     let ok : View → Result View RowFault = λ v. Ok v in
     elim (then-err (factor_of m.up m.packed) (λ t. ok (record m { packed = t })) e r) [
-      | inl h ↦ factors_refused m.up sized.extent.ascends m.packed e h sized.packed (M_at m) (same_entries m sized.extent.ascends)
+      | inl h ↦ factor_refused m sized e h
       | inr h ↦ absurd (not-both (ok (record m { packed = h.0 })) (record m { packed = h.0 }) e refl h.2)
     ]
 
@@ -305,35 +286,37 @@ module _ (tree : Tree) (row : Row) (kept : AreBodies tree.bodies) where
           ]
 
   -- ---- what the answer means, as there is one
-  module _ (one : HasOneForward tree row) where
-    ok : List Interval → Result (List Interval) RowFault
-    ok xs = Ok xs
+  one : HasOneForward tree row
+  one = has_one_forward tree row kept
 
-    pub forward_is : (w : View) → AreForward tree row w → forward_of tree row ≡ Ok (accelerations_in tree w)
-    unfolding ok
-    forward_is w h = go (forward_of tree row) refl
-      where
-        go : (r : Result (List Interval) RowFault) → forward_of tree row ≡ r → r ≡ Ok (accelerations_in tree w)
-        go (Ok xs) e = let f = forward_found xs e in ap ok (sym f.2 ∙ one.values f.0 w f.1 h)
-        go (Err e) r = absurd (one.either w e h (forward_refused e r))
+  ok : List Interval → Result (List Interval) RowFault
+  ok xs = Ok xs
 
-    pub refused_is : (e : RowFault) → IsForwardRefused tree row e → forward_of tree row ≡ Err e
-    refused_is e h = go (forward_of tree row) refl
-      where
-        go : (r : Result (List Interval) RowFault) → forward_of tree row ≡ r → r ≡ Err e
-        go (Ok xs) q = let f = forward_found xs q in absurd (one.either f.0 e f.1 h)
-        go (Err d) q =
-            let fault : RowFault → Result (List Interval) RowFault = λ e. Err e in
-            ap fault (one.refusal d e (forward_refused d q) h)
+  pub forward_is : (w : View) → AreForward tree row w → forward_of tree row ≡ Ok (accelerations_in tree w)
+  unfolding ok
+  forward_is w h = go (forward_of tree row) refl
+    where
+      go : (r : Result (List Interval) RowFault) → forward_of tree row ≡ r → r ≡ Ok (accelerations_in tree w)
+      go (Ok xs) e = let f = forward_found xs e in ap ok (sym f.2 ∙ one.values f.0 w f.1 h)
+      go (Err e) r = absurd (one.either w e h (forward_refused e r))
 
-    pub told_forward : {A : Type 0} (r : Result A RowFault) (t : View) → OnOk r (AreForward tree row t) → IfErr r (IsForwardRefused tree row)
-        → Answers r (forward_of tree row) (accelerations_in tree t)
-    told_forward (Ok x) t h k = forward_is t h
-    told_forward (Err e) t h k = refused_is e k
+  pub refused_is : (e : RowFault) → IsForwardRefused tree row e → forward_of tree row ≡ Err e
+  refused_is e h = go (forward_of tree row) refl
+    where
+      go : (r : Result (List Interval) RowFault) → forward_of tree row ≡ r → r ≡ Err e
+      go (Ok xs) q = let f = forward_found xs q in absurd (one.either f.0 e f.1 h)
+      go (Err d) q =
+          let fault : RowFault → Result (List Interval) RowFault = λ e. Err e in
+          ap fault (one.refusal d e (forward_refused d q) h)
 
-    pub forward_means : ForwardMeans tree row
-    unfolding ok
-    forward_means = record {
-      values = λ numbers. (forward_found numbers, λ h. forward_is h.0 h.1 ∙ ap ok h.2);
-      refused = λ e. (forward_refused e, refused_is e);
-    }
+  pub told_forward : {A : Type 0} (r : Result A RowFault) (t : View) → OnOk r (AreForward tree row t) → IfErr r (IsForwardRefused tree row)
+      → Answers r (forward_of tree row) (accelerations_in tree t)
+  told_forward (Ok x) t h k = forward_is t h
+  told_forward (Err e) t h k = refused_is e k
+
+  pub forward_means : ForwardMeans tree row
+  unfolding ok
+  forward_means = record {
+    values = λ numbers. (forward_found numbers, λ h. forward_is h.0 h.1 ∙ ap ok h.2);
+    refused = λ e. (forward_refused e, refused_is e);
+  }

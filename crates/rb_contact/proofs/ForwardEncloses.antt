@@ -5,7 +5,6 @@ use Rattle.rb_frac.specs.Spatial.{Force}
 use Rattle.rb_frac.proofs.Reduce.{same_refl, same_sym}
 use Rattle.rb_num.specs.Interval.{Interval}
 use Rattle.rb_num.specs.Refusing.{iv_sub}
-use Rattle.rb_num.specs.Fraction.{LiesIn}
 use Rattle.rb_num.proofs.Same.{lies_in_same}
 use Rattle.rb_num.proofs.Relates.{sub_met}
 use Rattle.rb_num.proofs.Bridges.{to_intervals, ok_met}

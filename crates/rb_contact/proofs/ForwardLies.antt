@@ -9,7 +9,6 @@ use Rattle.rb_frac.proofs.Hom.{frac_ring}
 use Rattle.rb_frac.proofs.Reduce.{same_refl, same_sym, same_trans}
 use Rattle.rb_frac.proofs.FracLaws.{sub_same}
 use Rattle.rb_frac.proofs.Variables.{at}
-use Rattle.rb_elimination.specs.Paths.{IsColumn}
 use Rattle.rb_elimination.specs.Product.{rows_of, numbers_of, IsOneSolution}
 use Rattle.rb_elimination.proofs.Dense.{pivots_eliminate}
 use Rattle.rb_elimination.proofs.Solutions.{elimination_solves}

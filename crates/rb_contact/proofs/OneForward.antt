@@ -1,5 +1,5 @@
 -- There is one answer of forward dynamics, from that of each of its parts.
-use Rattle.std.proofs.Common.{◌≡◌, ℕ, ◌+◌, ◌-◌, ◌<◌, ◌≤◌, max, min, Bool, true, if◌then◌else◌, List, [], length, get_or, map, inl, inr, Result, Ok, Err, refl, sym, ap, ◌∙◌, subst, arith}
+use Rattle.std.proofs.Common.{◌≡◌, ℕ, ◌+◌, ◌-◌, ◌≤◌, max, min, Bool, true, if◌then◌else◌, List, [], length, get_or, map, inl, inr, Err, refl, sym, ap, ◌∙◌, subst, arith}
 use Rattle.std.proofs.lemmas.Bool.{cases_lt}
 use Rattle.std.proofs.lemmas.List.{get_or-map}
 use Rattle.rb_num.specs.Interval.{Interval, zero_interval}
@@ -11,26 +11,29 @@ use Rattle.rb_elimination.specs.Factors.{AreFactors}
 use Rattle.rb_elimination.specs.Solving.{IsFound}
 use Rattle.rb_work.specs.declared.names.RowFault.{RowFault}
 use Rattle.rb_work.specs.Path.{above, Ascends, IsOn, is_on}
-use Rattle.rb_work.specs.View.{View, columns_of, T_at, M_at, mass_at, L_at, D_at, w_at, z_at, k_at, x_at}
+use Rattle.rb_work.specs.View.{View, columns_of, T_at, M_at, mass_at, L_at, D_at, k_at, x_at}
 use Rattle.rb_work.proofs.PathLaws.{is_on_true, on_least, on_most}
 use Rattle.rb_tree.specs.Columns.{column_count}
 use Rattle.rb_tree.specs.Robot.{Tree, HasColumn, AreBodies}
-use Rattle.rb_tree.specs.State.{Row, at_place}
+use Rattle.rb_tree.specs.State.{Row}
 use Rattle.rb_tree.specs.Places.{IsFor}
 use Rattle.rb_tree.proofs.PlacePass as places
-use Rattle.rb_rnea.specs.Dynamics.{AreDynamics, IsRefused, unaccelerated, torques_in}
+use Rattle.rb_rnea.specs.Dynamics.{AreDynamics, IsRefused, unaccelerated}
 use Rattle.rb_rnea.proofs.RowPass.{one_answer}
 use Rattle.rb_mass.specs.Mass.{AreMass, IsMassRefused, table_in, SamePlaces, MassHasOneAnswer}
-use Rattle.rb_mass.proofs.Pattern.{ups_are}
+use Rattle.rb_mass.proofs.Ways.{ups_same as ups_are}
+use Rattle.rb_mass.proofs.Told.{one_answer as mass_answer}
 use Rattle.rb_factor.specs.Steps.{interval_steps}
 use Rattle.rb_factor.specs.Factor.{HoldsFactors, IsFactorRefused, RefusesFactor}
-use Rattle.rb_factor.specs.Solve.{HoldsSolution, IsSolveRefused}
-use Rattle.rb_factor.specs.Laws.{SameTables, SameFactors, SameNumbers, HasOneFactor, FactorIsOne, HasOneSolve, SolveIsOne}
+use Rattle.rb_factor.specs.Solve.{IsSolveRefused}
+use Rattle.rb_factor.specs.Laws.{SameTables, SameFactors, SameNumbers, HasOneFactor, HasOneSolve}
 use Rattle.rb_factor.proofs.Paths.{listed_on, regular}
+use Rattle.rb_factor.proofs.OneFactor.{factor_is_one}
+use Rattle.rb_factor.proofs.OneSolve.{solve_is_one}
 use Rattle.rb_contact.specs.Driving.{k_rule, AreDriving, IsDrivingRefused}
 use Rattle.rb_contact.specs.Forward.{AreFactored, AreForward, IsForwardRefused, accelerations_in, HasOneForward}
 use Rattle.rb_contact.proofs.Stays.{dynamics_stay}
-use Rattle.rb_contact.proofs.RowEncloses.{ascends_for, in_order}
+use Rattle.rb_contact.proofs.RowEncloses.{ascends_for, in_order, found_in}
 
 -- ---- lists of columns
 numbered : {A : Type 0} (f : ℕ → A) (n c : ℕ) (d : A) → 1 ≤ c → c ≤ n → get_or (map f (upward 1 (n + 1))) (c - 1) d ≡ f c
@@ -48,9 +51,12 @@ rule_reads : (row : Row) (c : ℕ) (u w : View) → T_at u c ≡ T_at w c → k_
 unfolding k_rule
 rule_reads row c u w h = rw h refl
 
-module _ (tree : Tree) (row : Row) (kept : AreBodies tree.bodies) (one_mass : MassHasOneAnswer tree) (one_factor : FactorIsOne) (one_solve : SolveIsOne) where
+module _ (tree : Tree) (row : Row) (kept : AreBodies tree.bodies) where
   abbrev n : ℕ
   n = column_count tree.bodies
+
+  abbrev one_mass : MassHasOneAnswer tree
+  one_mass = mass_answer tree kept
 
   abbrev bias_row : Row
   bias_row = unaccelerated row
@@ -125,7 +131,7 @@ module _ (tree : Tree) (row : Row) (kept : AreBodies tree.bodies) (one_mass : Ma
 
     one_of : HasOneFactor (columns_of u) (above u.up) (M_at (given u hu)) (M_at (given w hw))
     one_of =
-        one_factor (columns_of u) (above u.up) (M_at (given u hu)) (M_at (given w hw)) own_regular
+        factor_is_one (columns_of u) (above u.up) (M_at (given u hu)) (M_at (given w hw)) own_regular
         (tables_same (given u hu) (given w hw) (given_room u hu) (given_room w hw) (given_bias u hu) (given_bias w hw) hu.table hw.table)
 
     same_factors : SameFactors (columns_of u) (above u.up) (L_at u) (L_at w)
@@ -145,31 +151,20 @@ module _ (tree : Tree) (row : Row) (kept : AreBodies tree.bodies) (one_mass : Ma
 
       solve_of : HasOneSolve (columns_of u) (above u.up) (L_at u) (L_at w) (D_at u) (D_at w) (k_at u) (k_at w)
       solve_of =
-          one_solve (columns_of u) (above u.up) (L_at u) (L_at w) (D_at u) (D_at w) (k_at u) (k_at w) own_regular same_factors same_pivots same_driving
+          solve_is_one (columns_of u) (above u.up) (L_at u) (L_at w) (D_at u) (D_at w) (k_at u) (k_at w) own_regular same_factors same_pivots same_driving
 
       solve_refused_at : (e : RowFault) → IsSolveRefused (columns_of w) (above w.up) (L_at w) (D_at w) (k_at w) e
           → IsSolveRefused (columns_of u) (above u.up) (L_at w) (D_at w) (k_at w) e
       solve_refused_at e h = subst (λ (ks : List ℕ). IsSolveRefused (length ks) (above ks) (L_at w) (D_at w) (k_at w) e) (sym ups) h
 
   -- ---- what is found
-  found_in : (w : View) → AreForward tree row w → IsFound interval_steps (columns_of w) (above w.up) (L_at w) (D_at w) (k_at w) (x_at w)
-  found_in w h = record {
-    left = h.solution.left;
-    w = w_at w;
-    z = z_at w;
-    part = h.solution.part;
-    reduced = h.solution.reduced;
-    divided = h.solution.divided;
-    substituted = h.solution.substituted;
-  }
-
   same_accelerations : (u w : View) → AreForward tree row u → AreForward tree row w → accelerations_in tree u ≡ accelerations_in tree w
   same_accelerations u w hu hw =
       let e = ups u w hu.factored hw.factored in
       let one = solve_of u w hu.factored hw.factored hu.driving hw.driving in
-      let other = subst (λ (ks : List ℕ). IsFound interval_steps (length ks) (above ks) (L_at w) (D_at w) (k_at w) (x_at w)) (sym e) (found_in w hw) in
+      let other = subst (λ (ks : List ℕ). IsFound interval_steps (length ks) (above ks) (L_at w) (D_at w) (k_at w) (x_at w)) (sym e) (found_in tree row w hw) in
       map_upward_same (x_at u) (x_at w) 1 (n + 1)
-      (λ c low high. one.values (x_at u) (x_at w) (found_in u hu) other c
+      (λ c low high. one.values (x_at u) (x_at w) (found_in tree row u hu) other c
       (record { from = low; to = subst (λ (k : ℕ). c ≤ k) (sym hu.factored.room.up.count) (omega arith) }))
 
   -- ---- nothing is refused whose value is there
@@ -182,7 +177,7 @@ module _ (tree : Tree) (row : Row) (kept : AreBodies tree.bodies) (one_mass : Ma
   no_factors : (w v : View) (e : RowFault) → AreFactored tree row w → IsFor tree v → AreDynamics tree bias_row v → AreMass tree v → RefusesFactor v e → ⊥
   no_factors w v e h room bv mv r =
       let same = tables_same (given w h) v (given_room w h) room (given_bias w h) bv h.table mv in
-      let one = one_factor (columns_of w) (above w.up) (M_at (given w h)) (M_at v) (regular w.up (ascends_for tree w kept h.room)) same in
+      let one = factor_is_one (columns_of w) (above w.up) (M_at (given w h)) (M_at v) (regular w.up (ascends_for tree w kept h.room)) same in
       one.either h.factors.table (L_at w) (D_at w) e h.factors.are h.factors.divisors (refused_at w v e (ups_same w v h.room room) r)
 
   no_driving : (w v : View) (e : RowFault) → AreFactored tree row w → AreDriving tree row w → AreFactored tree row v → IsDrivingRefused tree row v e → ⊥
@@ -192,7 +187,7 @@ module _ (tree : Tree) (row : Row) (kept : AreBodies tree.bodies) (one_mass : Ma
   no_solution : (w v : View) (e : RowFault) → AreForward tree row w → AreFactored tree row v → AreDriving tree row v
       → IsSolveRefused (columns_of v) (above v.up) (L_at v) (D_at v) (k_at v) e → ⊥
   no_solution w v e h hv dv r =
-      (solve_of w v h.factored hv h.driving dv).either (x_at w) e (found_in w h) (solve_refused_at w v h.factored hv h.driving dv e r)
+      (solve_of w v h.factored hv h.driving dv).either (x_at w) e (found_in tree row w h) (solve_refused_at w v h.factored hv h.driving dv e r)
 
   -- the mass table of a work that holds its factors, and the bias with it
   no_mass_behind : (w v : View) (e : RowFault) → AreFactored tree row w → AreDynamics tree bias_row v → IsMassRefused tree v e → ⊥
@@ -226,7 +221,7 @@ module _ (tree : Tree) (row : Row) (kept : AreBodies tree.bodies) (one_mass : Ma
   same_factor_refusal : (u v : View) (d e : RowFault) → IsFor tree u → AreDynamics tree bias_row u → AreMass tree u → RefusesFactor u d
       → IsFor tree v → AreDynamics tree bias_row v → AreMass tree v → RefusesFactor v e → d ≡ e
   same_factor_refusal u v d e ru bu mu r rv bv mv q =
-      (one_factor (columns_of u) (above u.up) (M_at u) (M_at v) (regular u.up (ascends_for tree u kept ru)) (tables_same u v ru rv bu bv mu mv)).refusal d e r
+      (factor_is_one (columns_of u) (above u.up) (M_at u) (M_at v) (regular u.up (ascends_for tree u kept ru)) (tables_same u v ru rv bu bv mu mv)).refusal d e r
       (refused_at u v e (ups_same u v ru rv) q)
 
   one_refusal : (d e : RowFault) → IsForwardRefused tree row d → IsForwardRefused tree row e → d ≡ e

@@ -1,23 +1,25 @@
 -- The one solution of forward dynamics of each choice lies in the values of a row.
-use Rattle.std.proofs.Common.{◌≡◌, ℕ, zero, suc, ◌+◌, ◌-◌, ◌<◌, ◌≤◌, max, min, Bool, true, false, if◌then◌else◌, List, length, Ok, inl, inr, refl, sym, ap, ◌∙◌, subst, arith}
+use Rattle.std.proofs.Common.{◌≡◌, ℕ, zero, suc, ◌-◌, ◌<◌, ◌≤◌, max, min, Bool, true, false, if◌then◌else◌, List, length, Ok, inl, inr, refl, sym, ap, subst, arith}
 use Rattle.std.proofs.lemmas.Bool.{cases_lt}
 use Rattle.std.proofs.lemmas.Int.{ints}
 use Rattle.rb_result.proofs.Results.{told-ok}
 use Rattle.rb_frac.specs.Frac.{Frac, Same, fracs, whole}
-use Rattle.rb_frac.specs.Spatial.{Places}
 use Rattle.rb_num.specs.Interval.{Interval, zero_interval}
 use Rattle.rb_num.specs.Refusing.{iv_sub}
 use Rattle.rb_num.specs.Fraction.{LiesIn}
 use Rattle.rb_elimination.specs.Paths.{IsColumn, IsZeroOffPaths}
 use Rattle.rb_elimination.specs.Paths as P
+use Rattle.rb_elimination.specs.Factors.{fraction_steps}
+use Rattle.rb_elimination.specs.Solving.{IsFound}
+use Rattle.rb_elimination.proofs.Related.{pivots_met, factors_met, found_met}
 use Rattle.rb_flat.specs.Choice.{Choice, IsChoice}
 use Rattle.rb_flat.specs.Mechanism.{Mechanism, mechanism_of}
-use Rattle.rb_flat.specs.Dynamics.{IsMassTable, no_force}
+use Rattle.rb_flat.specs.Dynamics.{no_force}
 use Rattle.rb_work.specs.Path.{above, Ascends, IsOn, is_on}
-use Rattle.rb_work.specs.View.{View, columns_of, X_at, T_at, M_at, mass_at, k_at, x_at}
+use Rattle.rb_work.specs.View.{View, columns_of, T_at, M_at, mass_at, L_at, D_at, w_at, z_at, k_at, x_at}
 use Rattle.rb_work.proofs.PathLaws.{on_from_test, is_on_true, on_least, on_most}
 use Rattle.rb_tree.specs.Columns.{column_count}
-use Rattle.rb_tree.specs.Robot.{Tree, HasBody, HasColumn, AreBodies}
+use Rattle.rb_tree.specs.Robot.{Tree, HasColumn, AreBodies}
 use Rattle.rb_tree.specs.Shape.{shape_of, brackets_of}
 use Rattle.rb_tree.specs.State.{Row, at_place, state_brackets}
 use Rattle.rb_tree.specs.Places.{IsFor}
@@ -27,11 +29,15 @@ use Rattle.rb_tree.proofs.ColumnsFit.{columns_fit, parents_first}
 use Rattle.rb_tree.proofs.PlaceEncloses.{places_enclose}
 use Rattle.rb_rnea.specs.Dynamics.{unaccelerated}
 use Rattle.rb_rnea.proofs.DynamicsEnclose.{dynamics_enclose}
-use Rattle.rb_mass.specs.Encloses.{EntriesLie, MassLies, PlacesLie, MassEncloses}
-use Rattle.rb_factor.specs.Laws.{NumbersLie, TableLies, AreWithin, EnclosesFactors, EnclosesSolution}
+use Rattle.rb_mass.specs.Encloses.{EntriesLie, MassLies, PlacesLie}
+use Rattle.rb_mass.proofs.MassEnclose.{mass_encloses}
+use Rattle.rb_factor.specs.Steps.{interval_steps}
+use Rattle.rb_factor.specs.Factor.{HoldsFactors}
+use Rattle.rb_factor.specs.Laws.{NumbersLie, TableLies, AreWithin, EnclosesFactors}
 use Rattle.rb_factor.proofs.Paths.{listed_on, on_listed, regular}
-use Rattle.rb_contact.specs.Driving.{k_rule, AreDriving}
-use Rattle.rb_contact.specs.Forward.{AreFactored, AreForward, ForwardLies, EnclosesForward}
+use Rattle.rb_factor.proofs.Relations.{fractions_lie, nonzero}
+use Rattle.rb_contact.specs.Driving.{k_rule}
+use Rattle.rb_contact.specs.Forward.{AreForward, ForwardLies, EnclosesForward}
 use Rattle.rb_contact.proofs.Unaccelerated.{still, still_chosen}
 use Rattle.rb_contact.proofs.ForwardEncloses.{driving, driving_lies, accelerations_lie}
 
@@ -97,9 +103,37 @@ module _ (tree : Tree) (table : ℕ → ℕ → Frac) (w : View) (ascends : Asce
       subst (λ (v : Interval). LiesIn (table c d) v) some
       (lies c d (robot_column c there) (record { from = least; to = let high : c ≤ columns_of w = there.to in omega (arith, columns) }))
 
+-- ---- the factors, and what they find
+-- the factors that a work holds enclose those of each table within the one that stood in their place
+factors_enclose : (w : View) (mass : List Interval) → Ascends w.up → HoldsFactors (record w { packed = mass }) w → EnclosesFactors (record w { packed = mass }) w
+unfolding fractions_lie
+factors_enclose w mass ascends h =
+    let n = columns_of w in
+    let up = above w.up in
+    let given = M_at (record w { packed = mass }) in
+    record {
+      at = λ m table L D f lies.
+          let diagonal : NumbersLie n D (D_at w) = pivots_met fractions_lie n up (regular w.up ascends) m table L D given h.table (L_at w) (D_at w) f.factors h.are lies in
+          record {
+            pivots = λ c i. nonzero (D c) (D_at w c) (diagonal c i) (h.divisors c i);
+            factors = factors_met fractions_lie n up (regular w.up ascends) m table L D given h.table (L_at w) (D_at w) f.factors h.are lies;
+            diagonal = diagonal;
+          };
+    }
+
+pub found_in : (tree : Tree) (row : Row) (w : View) → AreForward tree row w → IsFound interval_steps (columns_of w) (above w.up) (L_at w) (D_at w) (k_at w) (x_at w)
+found_in tree row w h = record {
+  left = h.solution.left;
+  w = w_at w;
+  z = z_at w;
+  part = h.solution.part;
+  reduced = h.solution.reduced;
+  divided = h.solution.divided;
+  substituted = h.solution.substituted;
+}
+
 -- ---- a row
-module _ (tree : Tree) (row : Row) (w : View) (kept : AreBodies tree.bodies) (are : AreForward tree row w) (by_mass : MassEncloses)
-    (by_factors : EnclosesFactors (record w { packed = are.factored.mass }) w) (by_solution : EnclosesSolution (record w { w = w.k }) w) where
+module _ (tree : Tree) (row : Row) (w : View) (kept : AreBodies tree.bodies) (are : AreForward tree row w) where
   abbrev held : View
   held = record w { packed = are.factored.mass }
 
@@ -113,6 +147,13 @@ module _ (tree : Tree) (row : Row) (w : View) (kept : AreBodies tree.bodies) (ar
   unfolding k_rule
   k_is c there = told-ok _ _ _ (are.driving.each_k c (record { from = there.from; to = omega (arith, there.to, columns) }))
 
+  -- what the factors find for a right side within k
+  solution_lies : (L : ℕ → ℕ → Frac) (D right y : ℕ → Frac) → AreWithin w L D → NumbersLie (columns_of w) right (k_at w)
+      → IsFound fraction_steps (columns_of w) (above w.up) L D right y → NumbersLie (columns_of w) y (x_at w)
+  unfolding fractions_lie
+  solution_lies L D right y h lies f =
+      found_met fractions_lie (columns_of w) (above w.up) (regular w.up ascends) L (L_at w) h.factors D right y (D_at w) (k_at w) (x_at w) f (found_in tree row w are) h.diagonal lies
+
   module _ (c : Choice) (chosen : IsChoice (brackets_of tree) (state_brackets row) c) where
     abbrev m : Mechanism Frac
     m = mechanism_of (shape_of tree) c
@@ -123,7 +164,7 @@ module _ (tree : Tree) (row : Row) (w : View) (kept : AreBodies tree.bodies) (ar
 
     mass_lies : MassLies tree (mechanism_of (shape_of tree) c) held
     mass_lies =
-        (by_mass tree held kept (record { bodies = are.factored.room.bodies; full = are.factored.room.full; up = are.factored.room.up }) are.factored.table).at row c chosen places
+        (mass_encloses tree held kept (record { bodies = are.factored.room.bodies; full = are.factored.room.full; up = are.factored.room.up }) are.factored.table).at row c chosen places
 
     torque_lies : NumbersLie (columns_of w) m.torque (λ k. at_place row.tau (k - 1))
     unfolding mechanism_of state_brackets
@@ -140,9 +181,9 @@ module _ (tree : Tree) (row : Row) (w : View) (kept : AreBodies tree.bodies) (ar
         (λ k there. bias.lies.torque k (record { from = there.from; to = omega (arith, there.to, columns) })) torque_lies k_is in
         let within = accelerations_lie shape m (no_force fracs) table bias.one.solution (parents_first tree kept) (mimics_fit tree kept) (columns_fit tree kept) mass_lies.exists.1 bias.one.solves
         (above w.up) (x_at w) (AreWithin w) (columns_of w) columns (regular w.up ascends) (sparse tree table held ascends columns lies) (λ L D h. h.pivots)
-        (λ t L D f. by_factors.at table t L D f (on_paths tree table held ascends columns lies))
-        (λ L D y h f. by_solution.found L D (driving m bias.one.solution) y h.factors h.diagonal right f) in
+        (λ t L D f. (factors_enclose w are.factored.mass ascends are.factored.factors).at table t L D f (on_paths tree table held ascends columns lies))
+        (λ L D y h f. solution_lies L D (driving m bias.one.solution) y h right f) in
         record { one = within.one; lies = λ k there. within.lies k (record { from = there.from; to = omega (arith, there.to, columns) }) }
 
-  pub row_encloses : EnclosesForward tree row w
-  row_encloses = record { at = λ c chosen. forward_lies c chosen }
+pub forward_encloses : (tree : Tree) (row : Row) (w : View) → AreBodies tree.bodies → AreForward tree row w → EnclosesForward tree row w
+forward_encloses tree row w kept are = record { at = λ c chosen. forward_lies tree row w kept are c chosen }

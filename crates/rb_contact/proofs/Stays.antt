@@ -1,15 +1,9 @@
 -- What stays as it is where other tables of a work change.
-use Rattle.std.proofs.Common.{◌≡◌, ℕ, List, refl, sym, ◌∙◌}
-use Rattle.rb_frac.specs.Spatial.{Inertia}
-use Rattle.rb_num.specs.Interval.{Interval}
-use Rattle.rb_elimination.specs.Paths.{IsColumn}
-use Rattle.rb_work.specs.View.{View, columns_of, w_at, k_at}
-use Rattle.rb_work.specs.Path.{above}
-use Rattle.rb_tree.specs.Robot.{Tree, HasColumn}
+use Rattle.rb_work.specs.View.{View}
+use Rattle.rb_tree.specs.Robot.{Tree}
 use Rattle.rb_tree.specs.State.{Row}
-use Rattle.rb_tree.specs.Places.{IsFor, q_rule, X_rule}
-use Rattle.rb_rnea.specs.Rates.{motion_of}
-use Rattle.rb_rnea.specs.Speeds.{s_rule, velocity_by, v_rule}
+use Rattle.rb_tree.specs.Places.{X_rule}
+use Rattle.rb_rnea.specs.Speeds.{velocity_by, v_rule}
 use Rattle.rb_rnea.specs.Accelerations.{turning_by, c_rule, acceleration_by, a_rule, need_by, b_rule}
 use Rattle.rb_rnea.specs.Forces as Forces
 use Rattle.rb_rnea.specs.Forces.{f_rule}
@@ -23,7 +17,6 @@ use Rattle.rb_mass.specs.Entries.{H_rule, carried_rule}
 use Rattle.rb_mass.specs.Table as Table
 use Rattle.rb_mass.specs.Table.{M_rule}
 use Rattle.rb_mass.specs.Mass.{AreMass}
-use Rattle.rb_contact.specs.Driving.{k_rule, AreDriving}
 use Rattle.rb_contact.specs.Forward.{AreFactored}
 
 -- the tables behind those of inverse dynamics

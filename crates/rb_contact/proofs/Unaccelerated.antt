@@ -1,5 +1,5 @@
 -- A choice for a row is one for the row without accelerations, once it has none.
-use Rattle.std.proofs.Common.{◌≡◌, ℕ, ◌-◌, ◌<◌, ◌≤◌, inl, inr, Option, None, Some, length, replicate, subst, sym, arith}
+use Rattle.std.proofs.Common.{ℕ, ◌-◌, inl, inr, Option, None, Some, length, replicate, subst, sym, arith}
 use Rattle.std.proofs.lemmas.Bool.{cases_lt}
 use Rattle.std.proofs.lemmas.List.{get_or-replicate, get_or_past, length-replicate}
 use Rattle.rb_frac.specs.Frac.{fracs}

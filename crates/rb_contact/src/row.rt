@@ -1,9 +1,10 @@
 //! Forward dynamics of a row.
 
 ghost use Rattle.std.specs.Prelude.{◌≡◌, OnOk, IfErr};
+ghost use Rattle.rb_sweep.specs.Sweep.{Answers};
 ghost use Rattle.rb_tree.specs.State.{Fits};
 ghost use Rattle.rb_tree.specs.Places.{IsFor};
-ghost use Rattle.rb_contact.specs.Forward.{AreFactored, AreForward, IsForwardRefused, EnclosesForward};
+ghost use Rattle.rb_contact.specs.Forward.{AreFactored, AreForward, IsForwardRefused, forward_of, accelerations_in, EnclosesForward};
 
 use crate::driving::drive;
 use rb_factor::{factor, solve};
@@ -53,6 +54,9 @@ pub fn forward(robot: &Robot, state: &State, work: &mut Work) -> Result<(), RowF
 
     // the first part that is refused, behind those whose values are there
     ensures refused { IfErr result (IsForwardRefused robot.now state.now) }
+
+    // one answer, whatever the work held before
+    ensures answer { Answers result (forward_of robot.now state.now) (accelerations_in robot.now work.new) }
 
     // the equations of motion of each choice have one solution, and its accelerations lie in the values
     ensures encloses { OnOk result (EnclosesForward robot.now state.now work.new) }

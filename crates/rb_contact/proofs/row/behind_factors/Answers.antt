@@ -9,9 +9,6 @@ returns-in_err-drive-clause-refused c =
     let p = err_from_is_err_and c.from_residual.result c.from_residual.ensures.1 in
     rw (p.1, p.2) (IsForwardRefused.in_driving c.args.work.now c.requires.factored c.in_err-drive.ensures.refused)
 
-pub solve-requires-clause-stub : goal.solve-requires-clause-stub
-solve-requires-clause-stub c = ?
-
 pub returns-clause-values : goal.returns-clause-values
 returns-clause-values c =
     let tree = c.args.robot.now in

@@ -7,9 +7,6 @@ use Rattle.rb_contact.specs.Forward.{IsForwardRefused}
 use Rattle.rb_contact.proofs.Assembled.{room_same, bias_stays, factored_from}
 use Rattle.rb_contact.proofs.row.factored.Goals as goal
 
-pub factor-requires : goal.factor-requires
-factor-requires c = ?
-
 pub returns-in_err-composite-clause-refused : goal.returns-in_err-composite-clause-refused
 returns-in_err-composite-clause-refused c =
     let p = err_from_is_err_and c.from_residual-in_err-composite.result c.from_residual-in_err-composite.ensures.1 in
