@@ -13,8 +13,8 @@ use Rattle.rb_tree.specs.Places.{IsFor}
 use Rattle.rb_rnea.specs.Dynamics.{AreDynamics, unaccelerated}
 use Rattle.rb_mass.specs.Mass.{AreMass}
 use Rattle.rb_factor.specs.Steps.{interval_steps}
-use Rattle.rb_factor.specs.Factor.{HoldsFactors}
-use Rattle.rb_factor.specs.Solve.{HoldsDivisors, HoldsSolution, IsSolveRefused, RefusesSolve}
+use Rattle.rb_factor.specs.Factor.{HoldsDivisors, HoldsFactors}
+use Rattle.rb_factor.specs.Solve.{HoldsSolution, IsSolveRefused, RefusesSolve}
 use Rattle.rb_contact.specs.Driving.{k_rule, AreDriving, IsRightSide}
 use Rattle.rb_contact.specs.Forward.{AreFactored, AreForward, IsForwardRefused}
 use Rattle.rb_contact.proofs.Stays.{dynamics_stay, factored_stays}

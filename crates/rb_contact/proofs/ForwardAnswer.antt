@@ -28,8 +28,8 @@ use Rattle.rb_mass.proofs.Ways.{ups_ascend}
 use Rattle.rb_mass.proofs.Runs.{sweeps_run}
 use Rattle.rb_mass.proofs.MassPass as Mass
 use Rattle.rb_mass.proofs.Told.{room_of, mass_found, mass_refused}
-use Rattle.rb_factor.specs.Factor.{HoldsFactors, RefusesFactor}
-use Rattle.rb_factor.specs.Solve.{HoldsDivisors, HoldsSolution, IsSolveRefused, RefusesSolve}
+use Rattle.rb_factor.specs.Factor.{HoldsDivisors, HoldsFactors, RefusesFactor}
+use Rattle.rb_factor.specs.Solve.{HoldsSolution, IsSolveRefused, RefusesSolve}
 use Rattle.rb_factor.specs.Sweeps.{number_at, factor_of, reduce_of, divide_of, substitute_of}
 use Rattle.rb_factor.proofs.Answered.{factor_values, factor_refused}
 use Rattle.rb_factor.proofs.Reducing.{reduced, reduction_refused}

@@ -100,7 +100,7 @@ module _ (tree : Tree) (row : Row) (kept : AreBodies tree.bodies) where
       let i = robot_column u hu c there in
       let high : c ≤ n = i.to in
       sym (some_mass u ascends c d listed)
-      ∙ masses_same u w hu hw (one_mass.values u w hu hw (places_same u w bu bw) mu mw) c d i (record { from = least; to = omega arith })
+      ∙ masses_same u w hu hw (one_mass.values u w (ups_are tree u.up hu.up) (ups_are tree w.up hw.up) (places_same u w bu bw) mu mw) c d i (record { from = least; to = omega arith })
       ∙ some_mass w (ascends_for tree w kept hw) c d (subst (λ (ks : List ℕ). IsOn ks c d) ups listed)
 
   -- ---- its factors, seen with the columns of another work

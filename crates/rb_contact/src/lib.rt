@@ -6,3 +6,6 @@ pub mod laws;
 mod row;
 
 pub use row::forward;
+
+#[cfg(test)]
+mod tests;
