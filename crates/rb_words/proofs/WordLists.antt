@@ -12,7 +12,7 @@ use Rattle.rb_num.specs.Interval.{Interval}
 use Rattle.rb_result.specs.Steps.{◌>>=◌}
 use Rattle.rb_words.specs.Options.{app}
 use Rattle.rb_words.specs.Words.{Asked, asked_in, gravity_of, order_of, root_in}
-use Rattle.rb_words.specs.Laws.{AllWordsTell, JoinedWordsTell, ShortWordsTell, Texts, all_words, by_defaults, joined_words, short_command, short_words, stands_alone}
+use Rattle.rb_words.specs.Laws.{AllWordsTell, JoinedWordsTell, ShortWordsTell, Texts, all_command, all_words, by_defaults, joined_words, short_command, short_words, stands_alone}
 use Rattle.rb_words.specs.declared.faults.WordsFault.{WordsFault}
 use Rattle.rb_words.proofs.Down.{gravity_down}
 use Rattle.rb_words.proofs.Telling.{words_accepted}
@@ -204,17 +204,7 @@ all_faultless : (program : Text) (texts : Texts) → fault_of app (all_words pro
 unfolding clap_on_literals app
 all_faultless program texts = refl
 
-all_asked : (program : Text) (texts : Texts) → asked_in (matches_of app (all_words program texts))
-    ≡ (order_of texts.task >>= λ order. root_in (Some texts.root) >>= λ root. gravity_of texts.gravity >>= λ gravity. Ok (record {
-      order = order;
-      urdf = texts.urdf;
-      srdf = Some texts.srdf;
-      state = Some texts.state;
-      root = root;
-      rows = texts.rows;
-      gravity = gravity;
-      echo = true;
-    }))
+all_asked : (program : Text) (texts : Texts) → asked_in (matches_of app (all_words program texts)) ≡ all_command texts
 unfolding clap_on_literals app asked_in
 all_asked program texts = refl
 

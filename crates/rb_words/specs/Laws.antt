@@ -68,9 +68,10 @@ all_words program texts =
     program ∷ codes "--echo" ∷ (codes "--gravity=" ++ texts.gravity) ∷ (codes "--rows=" ++ texts.rows) ∷ (codes "--root=" ++ texts.root)
     ∷ (codes "--state=" ++ texts.state) ∷ (codes "--srdf=" ++ texts.srdf) ∷ (codes "--urdf=" ++ texts.urdf) ∷ (codes "--task=" ++ texts.task) ∷ []
 
-abbrev pub AllWordsTell : Type 0
-AllWordsTell = (program : Text) (texts : Texts) → command_of (all_words program texts)
-    ≡ (order_of texts.task >>= λ order. root_in (Some texts.root) >>= λ root. gravity_of texts.gravity >>= λ gravity. Ok (record {
+-- each text is a part of the command of its own
+abbrev pub all_command : Texts → Result Asked WordsFault
+all_command texts =
+    order_of texts.task >>= λ order. root_in (Some texts.root) >>= λ root. gravity_of texts.gravity >>= λ gravity. Ok (record {
       order = order;
       urdf = texts.urdf;
       srdf = Some texts.srdf;
@@ -79,4 +80,7 @@ AllWordsTell = (program : Text) (texts : Texts) → command_of (all_words progra
       rows = texts.rows;
       gravity = gravity;
       echo = true;
-    }))
+    })
+
+abbrev pub AllWordsTell : Type 0
+AllWordsTell = (program : Text) (texts : Texts) → command_of (all_words program texts) ≡ all_command texts

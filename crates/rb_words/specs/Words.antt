@@ -14,8 +14,9 @@ use Rattle.rb_result.specs.Steps.{◌>>=◌}
 use Rattle.rb_text.specs.Bracket.{bracket_of}
 use Rattle.rb_tags.specs.declared.root.RootKind.{RootKind}
 use Rattle.rb_tags.specs.declared.root.RootKind.TheVariants.{Fixed, Planar, Floating}
+use Rattle.rb_rows.specs.Head as Tasks
 use Rattle.rb_rows.specs.Head.{task_word}
-use Rattle.rb_rows.specs.declared.task.Task.TheVariants.{Rnea}
+use Rattle.rb_rows.specs.declared.task.Task.TheVariants.{Rnea, Crba, Fd}
 use Rattle.rb_words.specs.declared.faults.WordsFault.{WordsFault}
 use Rattle.rb_words.specs.declared.faults.WordsFault.TheVariants.{Words, Task, Root, Gravity}
 use Rattle.rb_words.specs.declared.order.Order.{Order}
@@ -37,11 +38,11 @@ order_word Columns = codes "columns"
 
 -- the orders that are built
 abbrev pub orders : List Order
-orders = Rows Rnea ∷ Model ∷ Columns ∷ []
+orders = Rows Rnea ∷ Rows Crba ∷ Rows Fd ∷ Model ∷ Columns ∷ []
 
--- of tasks over rows these are
+-- of the tasks over rows, those whose rows are answered
 abbrev pub IsBuilt : Order → Type 0
-IsBuilt (Rows task) = task ≡ Rnea
+IsBuilt (Rows task) = Tasks.IsBuilt task
 IsBuilt Model = Unit {0}
 IsBuilt Columns = Unit {0}
 

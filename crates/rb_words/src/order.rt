@@ -36,6 +36,8 @@ pub(crate) fn read_order(word: &str) -> Result<Order, WordsFault>
 {
     match word {
         "rnea" => Ok(Order::Rows(Task::Rnea)),
+        "crba" => Ok(Order::Rows(Task::Crba)),
+        "fd" => Ok(Order::Rows(Task::Fd)),
         "model" => Ok(Order::Model),
         "columns" => Ok(Order::Columns),
         _ => Err(WordsFault::Task),
