@@ -12,7 +12,6 @@ use Rattle.rb_tree.specs.Columns.{column_count, entry_count, own_entries, unless
 use Rattle.rb_tree.specs.Robot.{Tree}
 use Rattle.rb_tree.specs.State.{Row, Fits, neutral_entries, neutral_unless, neutral_of, neutral_position, neutral_under, standard_gravity}
 use Rattle.rb_work.specs.declared.names.RowFault.{RowFault}
-use Rattle.rb_rnea.specs.Dynamics.{answer_of}
 use Rattle.rb_rows.specs.declared.faults.FieldFault.{FieldFault}
 use Rattle.rb_run.specs.declared.job.Job.{Job}
 use Rattle.rb_run.specs.declared.slot.Answer.TheVariants as answer
@@ -21,7 +20,7 @@ use Rattle.rb_run.specs.declared.slot.SlotInput.{SlotInput}
 use Rattle.rb_run.specs.declared.slot.SlotInput.TheVariants as Input
 use Rattle.rb_run.specs.Line.{numbers_text, state_text, echo_text, is_read, line_of}
 use Rattle.rb_run.specs.Slots.{value_count, IsSlotOf}
-use Rattle.rb_run.specs.Answers.{HasAnswer, IsAnsweredBy, Told, Holds, done_slot, refused_slot, bad_slot, slot_of, is_refused}
+use Rattle.rb_run.specs.Answers.{answer_for, HasAnswer, IsAnsweredBy, Told, Holds, done_slot, refused_slot, bad_slot, slot_of, is_refused}
 
 -- ---- fields of numbers that are not told
 blank_same : (xs ys : List Interval) → length xs ≡ length ys → numbers_text false xs ≡ numbers_text false ys
@@ -96,7 +95,7 @@ pub record SaysAnswer (job : Job) (x : Slot) (number : ℕ) (told : Told) : Type
   pub line : line_of job.echo x ≡ line_of job.echo (slot_of job number told)
   pub refused : is_refused x ≡ is_refused (slot_of job number told)
 
-row_says : (job : Job) (old new : Slot) (number : ℕ) (row : Row) (result : Result (List Interval) RowFault) → answer_of job.robot row ≡ result → length old.values ≡ value_count job.robot job.task
+row_says : (job : Job) (old new : Slot) (number : ℕ) (row : Row) (result : Result (List Interval) RowFault) → answer_for job.task job.robot row ≡ result → length old.values ≡ value_count job.robot job.task
     → old.row ≡ number → old.input ≡ Input.Row → old.state ≡ row → HasAnswer result old new → SaysAnswer job new number (Ok row)
 row_says job old new number row (Ok values) is long at input state answers =
     let same : new ≡ done_slot number row values = rw (at, input, state) at answers in
@@ -115,8 +114,8 @@ row_says job old new number row (Err fault) is long at input state answers =
 
 pub answer_says : (job : Job) (old new : Slot) (number : ℕ) (told : Told) → IsSlotOf job old → Holds old number told → IsAnsweredBy job old.input old new → SaysAnswer job new number told
 answer_says job old new number (Ok row) fits holds answers =
-    row_says job old new number row (answer_of job.robot row) refl fits.values holds.row holds.input.0 holds.input.1
-    (subst (λ (s : Row). HasAnswer (answer_of job.robot s) old new) holds.input.1 (subst (λ (i : SlotInput). IsAnsweredBy job i old new) holds.input.0 answers))
+    row_says job old new number row (answer_for job.task job.robot row) refl fits.values holds.row holds.input.0 holds.input.1
+    (subst (λ (s : Row). HasAnswer (answer_for job.task job.robot s) old new) holds.input.1 (subst (λ (i : SlotInput). IsAnsweredBy job i old new) holds.input.0 answers))
 answer_says job old new number (Err fault) fits holds answers =
     let is : new ≡ record old { answer = answer.Bad fault } = subst (λ (i : SlotInput). IsAnsweredBy job i old new) holds.input answers in
     let says : new.answer ≡ answer.Bad fault = ap (λ (x : Slot). x.answer) is in

@@ -1,4 +1,8 @@
 pub mod Numbers
-pub mod Torques
+pub mod Taken
+pub mod Pairs
+pub mod Upper
 pub mod Enclosing
+pub mod Means
+pub mod Answering
 pub mod Answered

@@ -1,5 +1,5 @@
--- The torques of the columns, one after the other.
-use Rattle.std.proofs.Common.{◌≡◌, ◌<◌, ◌≤◌, ◌+◌, ◌-◌, ℕ, zero, suc, List, [], ◌∷◌, ◌++◌, length, map, take, set, refl, ◌∙◌, ap, sym, arith}
+-- Values of columns, taken one after the other.
+use Rattle.std.proofs.Common.{◌≡◌, ◌<◌, ◌≤◌, ◌+◌, ◌-◌, ℕ, zero, suc, List, [], ◌∷◌, ◌++◌, length, map, take, set, refl, ◌∙◌, ap, sym, arith, append-nil, append_assoc}
 use Rattle.std.proofs.lemmas.List.{map-append, take_all, length-set}
 use Rattle.std.proofs.lemmas.Grind.{take-set_at}
 use Rattle.rb_num.specs.Interval.{Interval}
@@ -22,22 +22,30 @@ upward_more lo hi within =
     let last : lo + (hi - lo) ≡ hi = omega arith in
     ap (counting_up lo) one ∙ counting_more lo (hi - lo) ∙ ap (λ n. counting_up lo (hi - lo) ++ n ∷ []) last
 
--- those of the columns below c are taken
-pub record TorquesTaken (at : ℕ → Interval) (old new : List Interval) (c : ℕ) : Type 0 where
-  pub taken : take (c - 1) new ≡ map at (upward 1 c)
+-- behind so many others, those of the columns from lo on and below c are taken
+pub record Taken (at : ℕ → Interval) (old new : List Interval) (behind lo c : ℕ) : Type 0 where
+  pub taken : take (behind + (c - lo)) new ≡ take behind old ++ map at (upward lo c)
   pub long : length new ≡ length old
 
-pub torques_none : (at : ℕ → Interval) (old : List Interval) → TorquesTaken at old old 1
-torques_none at old = record { taken = rw (upward_none 1) refl; long = refl }
+pub taken_none : (at : ℕ → Interval) (old : List Interval) (behind lo : ℕ) → Taken at old old behind lo lo
+taken_none at old behind lo =
+    let e : behind + (lo - lo) ≡ behind = omega arith in
+    record { taken = rw (upward_none lo) (ap (λ n. take n old) e ∙ sym (append-nil (take behind old))); long = refl }
 
-pub torques_more : (at : ℕ → Interval) (old mid : List Interval) (c : ℕ) (torque : Interval) → 1 ≤ c → c - 1 < length old → torque ≡ at c → TorquesTaken at old mid c → TorquesTaken at old (set mid (c - 1) torque) (c + 1)
-torques_more at old mid c torque some within is so_far = record {
-  taken =
-      take-set_at mid (c - 1) (c + 1 - 1) torque (omega arith) (omega (arith, so_far.long)) ∙ ap (λ (ts : List Interval). ts ++ torque ∷ []) so_far.taken
-      ∙ ap (λ (t : Interval). map at (upward 1 c) ++ t ∷ []) is ∙ sym (map-append at (upward 1 c) (c ∷ [])) ∙ ap (map at) (sym (upward_more 1 c some));
-  long = length-set mid (c - 1) torque ∙ so_far.long;
-}
+pub taken_more : (at : ℕ → Interval) (old mid : List Interval) (behind lo c place : ℕ) (value : Interval) → lo ≤ c → place ≡ behind + (c - lo) → place < length old → value ≡ at c
+    → Taken at old mid behind lo c → Taken at old (set mid place value) behind lo (c + 1)
+taken_more at old mid behind lo c place value some here within is so_far =
+    let next : behind + (c + 1 - lo) ≡ place + 1 = omega arith in
+    record {
+      taken =
+          take-set_at mid place (behind + (c + 1 - lo)) value (omega (arith, next)) (omega (arith, so_far.long, within)) ∙ ap (λ (n : ℕ). take n mid ++ value ∷ []) here
+          ∙ ap (λ (vs : List Interval). vs ++ value ∷ []) so_far.taken ∙ append_assoc (take behind old) (map at (upward lo c)) (value ∷ [])
+          ∙ ap (λ (v : Interval). take behind old ++ (map at (upward lo c) ++ v ∷ [])) is ∙ ap (λ (vs : List Interval). take behind old ++ vs) (sym (map-append at (upward lo c) (c ∷ [])))
+          ∙ ap (λ ns. take behind old ++ map at ns) (sym (upward_more lo c some));
+      long = length-set mid place value ∙ so_far.long;
+    }
 
-pub torques_whole : (at : ℕ → Interval) (old new : List Interval) (c n : ℕ) → c ≡ n + 1 → length old ≡ n → TorquesTaken at old new c → new ≡ map at (upward 1 (n + 1))
-torques_whole at old new c n end all taken =
-    sym (take_all (c - 1) new (omega (arith, end, all, taken.long))) ∙ taken.taken ∙ ap (λ (m : ℕ). map at (upward 1 m)) end
+-- those of all columns are taken
+pub taken_whole : (at : ℕ → Interval) (old new : List Interval) (c n : ℕ) → c ≡ n + 1 → length old ≡ n → Taken at old new 0 1 c → new ≡ map at (upward 1 (n + 1))
+taken_whole at old new c n end all taken =
+    sym (take_all (0 + (c - 1)) new (omega (arith, end, all, taken.long))) ∙ taken.taken ∙ ap (λ (m : ℕ). map at (upward 1 m)) end

@@ -1,17 +1,62 @@
 -- What is answered to a row.
-use Rattle.std.specs.Prelude.{◌≡◌, ℕ, ◌+◌, List, [], ◌∷◌, Bool, not, replicate, Result, Ok, Err}
+use Rattle.std.specs.Prelude.{◌≡◌, ◌↔◌, ℕ, ◌+◌, ◌-◌, List, [], ◌∷◌, map, slice_index_or, Bool, not, replicate, Result, Ok, Err}
 use Rattle.rb_num.specs.Interval.{Interval, zero_interval}
+use Rattle.rb_result.specs.Steps.{◌>>=◌}
+use Rattle.rb_tree.specs.Columns.{column_count}
+use Rattle.rb_tree.specs.Robot.{Tree}
 use Rattle.rb_tree.specs.State.{Row}
 use Rattle.rb_work.specs.declared.names.RowFault.{RowFault}
-use Rattle.rb_rnea.specs.Dynamics.{answer_of}
+use Rattle.rb_work.specs.View.{View, mass_at}
+use Rattle.rb_rnea.specs.Dynamics as Inverse
+use Rattle.rb_mass.specs.Mass as Mass
+use Rattle.rb_contact.specs.Forward as Forward
 use Rattle.rb_rows.specs.declared.faults.FieldFault.{FieldFault}
+use Rattle.rb_rows.specs.declared.task.Task.{Task}
+use Rattle.rb_rows.specs.declared.task.Task.TheVariants as task
+use Rattle.rb_rows.specs.Head.{pairs_of}
 use Rattle.rb_run.specs.declared.job.Job.{Job}
 use Rattle.rb_run.specs.declared.slot.Answer.TheVariants as Answer
 use Rattle.rb_run.specs.declared.slot.Slot.{Slot}
 use Rattle.rb_run.specs.declared.slot.SlotInput.{SlotInput}
 use Rattle.rb_run.specs.declared.slot.SlotInput.TheVariants as Input
 use Rattle.rb_run.specs.Line.{is_done}
+use Rattle.rb_run.specs.Meaning.{Encloses, IsRefusedFor}
 use Rattle.rb_run.specs.Slots.{value_count, new_slot}
+
+-- ---- values
+-- the entry of a table at a pair of columns, which are numbered from 1
+abbrev pub entry_of : List (List Interval) → ℕ × ℕ → Interval
+entry_of table pair = slice_index_or (slice_index_or table (pair.0 - 1) []) (pair.1 - 1) zero_interval
+
+-- the entries on and above the diagonal, by rows
+abbrev pub upper_of : ℕ → List (List Interval) → List Interval
+upper_of count table = map (entry_of table) (pairs_of count)
+
+-- the one answer to a row: the torques, the upper entries of the mass table, the accelerations, or the first refusal on the way to them
+abbrev pub answer_for : Task → Tree → Row → Result (List Interval) RowFault
+answer_for task.Rnea tree row = Inverse.answer_of tree row
+answer_for task.Crba tree row = Mass.answer_of tree row >>= λ table. Ok (upper_of (column_count tree.bodies) table)
+answer_for task.Fd tree row = Forward.forward_of tree row
+answer_for unbuilt tree row = Ok []
+
+-- what a work holds for a pair of columns, and for all of them
+abbrev pub mass_of_pair : View → ℕ × ℕ → Interval
+mass_of_pair w pair = mass_at w pair.0 pair.1
+
+abbrev pub masses_in : Tree → View → List Interval
+masses_in tree w = map (mass_of_pair w) (pairs_of (column_count tree.bodies))
+
+-- what a work holds for these values
+abbrev pub values_in : Task → Tree → View → List Interval
+values_in task.Rnea tree w = Inverse.torques_in tree w
+values_in task.Crba tree w = masses_in tree w
+values_in task.Fd tree w = Forward.accelerations_in tree w
+values_in unbuilt tree w = []
+
+-- what the one answer means: values that enclose, or a refusal
+pub record AnswerMeans (asked : Task) (tree : Tree) (row : Row) : Type 0 where
+  pub values : (values : List Interval) → answer_for asked tree row ≡ Ok values → Encloses asked tree row values
+  pub refused : (fault : RowFault) → (answer_for asked tree row ≡ Err fault) ↔ IsRefusedFor asked tree row fault
 
 -- ---- answers
 -- a slot that holds no row has no answer, and one of a row whose fields are wrong tells which; the values of a state are those that are defined, or
@@ -23,7 +68,7 @@ HasAnswer (Err fault) old new = new ≡ record old { answer = Answer.Refused fau
 abbrev pub IsAnsweredBy : Job → SlotInput → Slot → Slot → Type 0
 IsAnsweredBy job Input.Idle old new = new ≡ record old { answer = Answer.Idle }
 IsAnsweredBy job (Input.Bad fault) old new = new ≡ record old { answer = Answer.Bad fault }
-IsAnsweredBy job Input.Row old new = HasAnswer (answer_of job.robot old.state) old new
+IsAnsweredBy job Input.Row old new = HasAnswer (answer_for job.task job.robot old.state) old new
 
 -- ---- what a row told
 -- a state, or what is wrong with the row's fields
@@ -63,7 +108,7 @@ slot_by job number row (Err fault) = refused_slot job number row fault
 
 -- the row of this number, which told this, with its answer
 abbrev pub slot_of : Job → ℕ → Told → Slot
-slot_of job number (Ok row) = slot_by job number row (answer_of job.robot row)
+slot_of job number (Ok row) = slot_by job number row (answer_for job.task job.robot row)
 slot_of job number (Err fault) = bad_slot job number fault
 
 -- rows that are numbered from this number on

@@ -2,18 +2,39 @@ ghost use Rattle.std.specs.Prelude.{◌≡◌, length, OnOk, IfErr};
 ghost use Rattle.rb_sweep.specs.Sweep.{Answers};
 ghost use Rattle.rb_tree.specs.Places.{IsFor};
 ghost use Rattle.rb_tree.specs.State.{Fits};
-ghost use Rattle.rb_rnea.specs.Dynamics.{IsRefused, answer_of};
-ghost use Rattle.rb_run.specs.Answers.{IsAnsweredBy};
-ghost use Rattle.rb_run.specs.Meaning.{Encloses};
+ghost use Rattle.rb_rows.specs.Head.{IsBuilt};
+ghost use Rattle.rb_run.specs.Answers.{IsAnsweredBy, answer_for, values_in};
+ghost use Rattle.rb_run.specs.Meaning.{Encloses, IsRefusedFor};
 ghost use Rattle.rb_run.specs.Slots.{value_count, IsSlotOf};
-ghost use Rattle.rb_rows.specs.declared.task.Task.TheVariants.{Rnea};
 
 use crate::job::Job;
 use crate::slot::{Answer, Slot, SlotInput};
 use crate::values::Values;
+use rb_contact::forward;
+use rb_mass::crba;
 use rb_rnea::rnea;
+use rb_rows::Task;
 use rb_tree::State;
 use rb_work::{RowFault, Work};
+
+/// Finds the values of a row: a work then holds them.
+fn find(job: &Job, state: &State, work: &mut Work) -> Result<(), RowFault>
+    requires task { IsBuilt job.now.task }
+    requires state { Fits job.now.robot state.now }
+    requires work { IsFor job.now.robot work.old }
+    ensures exact { Answers result (answer_for job.now.task job.now.robot state.now) (values_in job.now.task job.now.robot work.new) }
+    ensures headline { OnOk result (Encloses job.now.task job.now.robot state.now (values_in job.now.task job.now.robot work.new)) }
+    ensures refused { IfErr result (IsRefusedFor job.now.task job.now.robot state.now) }
+    ensures work { IsFor job.now.robot work.new }
+{
+    let _tree = job.robot.bodies();
+    match job.task {
+        Task::Rnea => rnea(&job.robot, state, work),
+        Task::Crba => crba(&job.robot, state, work),
+        Task::Fd => forward(&job.robot, state, work),
+        Task::Aba | Task::Contact | Task::Impulse => Ok(()),
+    }
+}
 
 /// Answers a row: the values are then what is asked for. It takes no memory.
 ///
@@ -24,19 +45,19 @@ pub fn answer_row(
     work: &mut Work,
     values: &mut Values,
 ) -> Result<(), RowFault>
-    requires task { job.now.task ≡ Rnea }
+    requires task { IsBuilt job.now.task }
     requires state { Fits job.now.robot state.now }
     requires work { IsFor job.now.robot work.old }
     requires length { length values.old ≡ value_count job.now.robot job.now.task }
 
     // the values, or the refusal, that are defined
-    ensures exact { Answers result (answer_of job.now.robot state.now) values.new }
+    ensures exact { Answers result (answer_for job.now.task job.now.robot state.now) values.new }
 
-    // for each choice within the brackets of the robot and the row the equations of motion have exactly one solution, and its torques lie in the values
-    ensures headline { OnOk result (Encloses job.now.robot state.now values.new) }
+    // for each choice within the brackets of the robot and the row the equations of the task have exactly one solution, and it lies in the values
+    ensures headline { OnOk result (Encloses job.now.task job.now.robot state.now values.new) }
 
     // there are values in which each name before one is what its rule gives, and the rule of that one refuses so
-    ensures refused { IfErr result (IsRefused job.now.robot state.now) }
+    ensures refused { IfErr result (IsRefusedFor job.now.task job.now.robot state.now) }
 
     // and then the values are as they were
     ensures kept { IfErr result (λ _. values.new ≡ values.old) }
@@ -44,8 +65,8 @@ pub fn answer_row(
     ensures length { length values.new ≡ length values.old }
     ensures work { IsFor job.now.robot work.new }
 {
-    rnea(&job.robot, state, work)?;
-    values.take_torques(&job.robot, work);
+    find(job, state, work)?;
+    values.take(job, work);
     Ok(())
 }
 
@@ -53,7 +74,7 @@ pub fn answer_row(
 ///
 /// A slot without a row has no answer, and a row of which a field is wrong tells which. The row's number, what it told and its state stay.
 pub fn answer_slot(job: &Job, slot: &mut Slot, work: &mut Work)
-    requires task { job.now.task ≡ Rnea }
+    requires task { IsBuilt job.now.task }
     requires slot { IsSlotOf job.now slot.old }
     requires work { IsFor job.now.robot work.old }
     ensures exact { IsAnsweredBy job.now slot.old.input slot.old slot.new }

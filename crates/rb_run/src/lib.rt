@@ -3,6 +3,7 @@
 
 mod answer;
 mod job;
+pub mod laws;
 mod line;
 mod slot;
 mod values;

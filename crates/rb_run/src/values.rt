@@ -1,8 +1,12 @@
-ghost use Rattle.std.specs.Prelude.{◌≡◌, ◌≤◌, ◌+◌, ◌*◌, ◌/◌, length, replicate, IfOk};
+ghost use Rattle.std.specs.Prelude.{◌≡◌, ◌≤◌, ◌+◌, ◌-◌, ◌*◌, ◌/◌, ◌++◌, length, map, replicate, take, IfOk};
 ghost use Rattle.rb_num.specs.Interval.{zero_interval};
 ghost use Rattle.rb_tree.specs.Columns.{column_count};
 ghost use Rattle.rb_tree.specs.Places.{IsFor};
+ghost use Rattle.rb_work.specs.View.{columns_of};
 ghost use Rattle.rb_rnea.specs.Dynamics.{torques_in};
+ghost use Rattle.rb_contact.specs.Forward.{accelerations_in};
+ghost use Rattle.rb_rows.specs.Head.{IsBuilt, pairs_at};
+ghost use Rattle.rb_run.specs.Answers.{mass_of_pair, masses_in, values_in};
 ghost use Rattle.rb_run.specs.Slots.{value_count};
 
 use crate::job::Job;
@@ -46,7 +50,63 @@ fn put_torques(robot: &Robot, work: &Work, torques: &mut [Iv])
     }
 }
 
-/// The values of the answer of a row: of inverse dynamics, the torques from column 1 on.
+/// Puts the accelerations of a work.
+fn put_accelerations(robot: &Robot, work: &Work, accelerations: &mut [Iv])
+    requires work { IsFor robot.now work.now }
+    requires length { length accelerations.old ≡ column_count robot.now.bodies }
+    ensures accelerations { accelerations.new ≡ accelerations_in robot.now work.now }
+    ensures length { length accelerations.new ≡ length accelerations.old }
+{
+    for c in 1..robot.nv() + 1 {
+        accelerations[c as usize - 1] = work.accel(c);
+    }
+}
+
+/// Puts the entries of the mass table at column `c` and each from it on, behind so many others.
+fn put_mass_row(work: &Work, c: u32, behind: usize, masses: &mut [Iv])
+    requires column { 1 ≤ c }
+    requires to { c ≤ columns_of work.now }
+    requires room { behind + (columns_of work.now + 1 - c) ≤ length masses.old }
+    ensures row { take (behind + (columns_of work.now + 1 - c)) masses.new ≡ take behind masses.old ++ map (mass_of_pair work.now) (pairs_at (columns_of work.now) c) }
+    ensures length { length masses.new ≡ length masses.old }
+{
+    for d in c..work.columns() + 1 {
+        masses[behind + (d - c) as usize] = work.mass(c, d);
+    }
+}
+
+/// Puts the entries of the mass table of a work at each two columns, by rows.
+fn put_masses(robot: &Robot, work: &Work, masses: &mut [Iv])
+    requires work { IsFor robot.now work.now }
+    requires length { length masses.old ≡ column_count robot.now.bodies * (column_count robot.now.bodies + 1) / 2 }
+    ensures masses { masses.new ≡ masses_in robot.now work.now }
+    ensures length { length masses.new ≡ length masses.old }
+{
+    let columns = work.columns();
+    let mut behind = 0;
+    for c in 1..columns + 1 {
+        put_mass_row(work, c, behind, masses);
+        behind += (columns + 1 - c) as usize;
+    }
+}
+
+/// Puts what a work holds for the values of a row.
+fn put_values(job: &Job, work: &Work, values: &mut [Iv])
+    requires task { IsBuilt job.now.task }
+    requires work { IsFor job.now.robot work.now }
+    requires length { length values.old ≡ value_count job.now.robot job.now.task }
+    ensures values { values.new ≡ values_in job.now.task job.now.robot work.now }
+    ensures length { length values.new ≡ length values.old }
+{
+    match job.task {
+        Task::Rnea => put_torques(&job.robot, work, values),
+        Task::Crba => put_masses(&job.robot, work, values),
+        Task::Fd => put_accelerations(&job.robot, work, values),
+        Task::Aba | Task::Contact | Task::Impulse => {}
+    }
+}
+
+/// The values of the answer of a row: the torques or the accelerations from column 1 on, or the entries of the mass table at each two columns, by rows.
 #[derive(Debug, Drop)]
 pub struct Values {
     items: Vec<Iv>,
@@ -79,13 +139,14 @@ impl Values {
         self.items.as_slice()
     }
 
-    /// Takes the torques of a work.
-    pub(crate) fn take_torques(&mut self, robot: &Robot, work: &Work)
-        requires work { IsFor robot.now work.now }
-        requires length { length self.old ≡ column_count robot.now.bodies }
-        ensures torques { self.new ≡ torques_in robot.now work.now }
+    /// Takes what a work holds for them.
+    pub(crate) fn take(&mut self, job: &Job, work: &Work)
+        requires task { IsBuilt job.now.task }
+        requires work { IsFor job.now.robot work.now }
+        requires length { length self.old ≡ value_count job.now.robot job.now.task }
+        ensures values { self.new ≡ values_in job.now.task job.now.robot work.now }
         ensures length { length self.new ≡ length self.old }
     {
-        put_torques(robot, work, self.items.as_mut_slice());
+        put_values(job, work, self.items.as_mut_slice());
     }
 }

@@ -1,0 +1,73 @@
+-- What the one answer of each task means.
+use Rattle.std.proofs.Common.{◌≡◌, List, Result, Ok, Err, refl, sym, ap, ◌∙◌, subst}
+use Rattle.rb_num.specs.Interval.{Interval}
+use Rattle.rb_result.specs.Steps.{◌>>=◌}
+use Rattle.rb_result.proofs.Results.{then-ok, same_ok}
+use Rattle.rb_flat.specs.Choice.{IsChoice}
+use Rattle.rb_tree.specs.Columns.{column_count}
+use Rattle.rb_tree.specs.Robot.{Tree, AreBodies}
+use Rattle.rb_tree.specs.State.{Row}
+use Rattle.rb_work.specs.declared.names.RowFault.{RowFault}
+use Rattle.rb_work.specs.View.{View}
+use Rattle.rb_rnea.specs.Dynamics as Inverse
+use Rattle.rb_mass.specs.Mass as Mass
+use Rattle.rb_mass.specs.Encloses as Table
+use Rattle.rb_contact.specs.Forward as Forward
+use Rattle.rb_rows.specs.Head.{IsBuilt}
+use Rattle.rb_rows.specs.declared.task.Task.{Task}
+use Rattle.rb_rows.specs.declared.task.Task.TheVariants as task
+use Rattle.rb_run.specs.Answers.{AnswerMeans, upper_of, masses_in}
+use Rattle.rb_run.specs.Meaning.{Encloses}
+use Rattle.rb_run.proofs.Enclosing.{MassesLie, torques_enclose, accelerations_enclose, masses_enclose}
+use Rattle.rb_run.proofs.Upper.{upper_is}
+
+-- a step that is never refused leaves refusals as they are
+refused_first : {A B E : Type 0} (r : Result A E) (f : A → B) (e : E) → (r >>= λ x. Ok (f x)) ≡ Err e → r ≡ Err e
+refused_first (Ok x) f e is = absurd cc
+refused_first (Err d) f e is = let same : d ≡ e = cc in ap Err same
+
+refused_then : {A B E : Type 0} (r : Result A E) (f : A → B) (e : E) → r ≡ Err e → (r >>= λ x. Ok (f x)) ≡ Err e
+refused_then r f e is = rw is refl
+
+-- what a work holds for the mass table lies in it
+pub masses_lie : (tree : Tree) (row : Row) (kept : AreBodies tree.bodies) (w : View) → Table.EnclosesTable tree row w → Encloses task.Crba tree row (masses_in tree w)
+masses_lie tree row kept w encloses = masses_enclose tree kept w row (λ choice chosen. let lie = encloses.at choice chosen in record { table = lie.table; is = lie.is; lies = lie.lies })
+
+module _ (tree : Tree) (row : Row) (kept : AreBodies tree.bodies) where
+  torques_mean : Inverse.AnswerMeans tree row → Inverse.AnswerEncloses tree row → AnswerMeans task.Rnea tree row
+  torques_mean means encloses = record {
+    values = λ values is.
+        let found = (means.values values).0 is in
+        subst (Encloses task.Rnea tree row) found.2 (torques_enclose tree row found.0 (encloses.values found.0 found.1));
+    refused = means.refused;
+  }
+
+  masses_mean : Table.AnswerMeans tree row → Table.AnswerEncloses tree row → AnswerMeans task.Crba tree row
+  masses_mean means encloses = record {
+    values = λ values is.
+        let upper = upper_of (column_count tree.bodies) in
+        let step = then-ok (Mass.answer_of tree row) (λ table. Ok (upper table)) values is in
+        let found = (means.values step.0).0 step.1 in
+        let same : upper step.0 ≡ values = same_ok (upper step.0) values step.2 in
+        subst (Encloses task.Crba tree row) (sym (upper_is tree found.0) ∙ ap upper found.3 ∙ same) (masses_lie tree row kept found.0 (encloses.values found.0 found.1 found.2));
+    refused = λ fault.
+        ((λ is. (means.refused fault).0 (refused_first (Mass.answer_of tree row) (upper_of (column_count tree.bodies)) fault is)),
+        (λ refused. refused_then (Mass.answer_of tree row) (upper_of (column_count tree.bodies)) fault ((means.refused fault).1 refused)));
+  }
+
+  accelerations_mean : Forward.ForwardMeans tree row → Forward.ForwardEncloses tree row → AnswerMeans task.Fd tree row
+  accelerations_mean means encloses = record {
+    values = λ values is.
+        let found = (means.values values).0 is in
+        subst (Encloses task.Fd tree row) found.2 (accelerations_enclose tree row found.0 (encloses.values found.0 found.1));
+    refused = means.refused;
+  }
+
+  pub answer_means : Inverse.AnswerMeans tree row → Inverse.AnswerEncloses tree row → Table.AnswerMeans tree row → Table.AnswerEncloses tree row
+      → Forward.ForwardMeans tree row → Forward.ForwardEncloses tree row → (asked : Task) → IsBuilt asked → AnswerMeans asked tree row
+  answer_means torques torques_lie masses masses_lie accelerations accelerations_lie task.Rnea built = torques_mean torques torques_lie
+  answer_means torques torques_lie masses masses_lie accelerations accelerations_lie task.Crba built = masses_mean masses masses_lie
+  answer_means torques torques_lie masses masses_lie accelerations accelerations_lie task.Fd built = accelerations_mean accelerations accelerations_lie
+  answer_means torques torques_lie masses masses_lie accelerations accelerations_lie task.Aba built = absurd built
+  answer_means torques torques_lie masses masses_lie accelerations accelerations_lie task.Contact built = absurd built
+  answer_means torques torques_lie masses masses_lie accelerations accelerations_lie task.Impulse built = absurd built

@@ -1,0 +1,15 @@
+use Rattle.std.proofs.Common.{◌≡◌, OnOk}
+use Rattle.rb_run.proofs.Answering.{torques_found, masses_found, masses_answer, accelerations_found}
+use Rattle.rb_run.proofs.answer.find.Goals as goal
+
+pub returns-in-Rnea-clause-headline : goal.returns-in-Rnea-clause-headline
+returns-in-Rnea-clause-headline c = torques_found _ c.in-Rnea.is _ _ _ _ c.rnea.ensures.encloses
+
+pub returns-in-Crba-clause-exact : goal.returns-in-Crba-clause-exact
+returns-in-Crba-clause-exact c = masses_answer _ c.in-Crba.is _ _ _ _ c.crba.ensures.answer
+
+pub returns-in-Crba-clause-headline : goal.returns-in-Crba-clause-headline
+returns-in-Crba-clause-headline c = masses_found _ c.in-Crba.is _ _ c.bodies-tree.ensures.kept _ _ c.crba.ensures.encloses
+
+pub returns-in-Fd-clause-headline : goal.returns-in-Fd-clause-headline
+returns-in-Fd-clause-headline c = accelerations_found _ c.in-Fd.is _ _ _ _ c.forward.ensures.encloses
