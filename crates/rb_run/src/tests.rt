@@ -1,10 +1,10 @@
-//! Lines of the rows of a lift, worked out by hand.
-ghost use Rattle.std.specs.Prelude.{◌≡◌, IfOk, IfSome};
+//! Lines of rows, worked out by hand.
+ghost use Rattle.std.specs.Prelude.{◌≡◌, ◌≤◌, IfOk, IfSome, length};
 ghost use Rattle.rb_tree.specs.Places.{IsFor};
 ghost use Rattle.rb_tree.specs.State.{Fits};
 ghost use Rattle.rb_run.specs.Slots.{IsSlotOf};
 ghost use Rattle.rb_run.specs.declared.slot.Answer.TheVariants.{Idle};
-ghost use Rattle.rb_rows.specs.declared.task.Task.TheVariants.{Rnea};
+ghost use Rattle.rb_rows.specs.Head.{IsBuilt};
 
 use super::*;
 use rb_num::Iv;
@@ -25,18 +25,22 @@ const LIFT: &str =
 const HEAVY: &str =
     "<robot name='lift'><link name='base'/><link name='car'><inertial><mass value='1e12'/></inertial></link><joint name='lift' type='prismatic'><parent link='base'/><child link='car'/><axis xyz='0 0 1'/></joint></robot>";
 
-// Inverse dynamics of the robot of a file; nothing if the file holds none.
-fn job_of(alloc: Global, text: &str, echo: bool) -> Option<Job>
-    ensures { IfSome result (λ job. job.task ≡ Rnea) }
+// Two sliders of 1 kg along x, the second on the first.
+const STACK: &str =
+    "<robot name='stack'><link name='base'/><link name='l1'><inertial><mass value='1'/></inertial></link><link name='l2'><inertial><mass value='1'/></inertial></link><joint name='one' type='prismatic'><parent link='base'/><child link='l1'/><axis xyz='1 0 0'/></joint><joint name='two' type='prismatic'><parent link='l1'/><child link='l2'/><axis xyz='1 0 0'/></joint></robot>";
+
+// A hinge that nothing hangs on.
+const LEAF: &str =
+    "<robot name='leaf'><link name='base'/><link name='tip'/><joint name='hinge' type='revolute'><parent link='base'/><child link='tip'/><axis xyz='0 1 0'/></joint></robot>";
+
+// This task for the robot of a file; nothing if the file holds none.
+fn job_of(alloc: Global, text: &str, task: Task, echo: bool) -> Option<Job>
+    ensures { IfSome result (λ job. job.task ≡ task) }
 {
     let tags = read_tags(alloc, text.as_bytes()).ok()?;
     let urdf = read_urdf(alloc, &tags).ok()?;
     let robot = Robot::build(alloc, &urdf, None, None).ok()?;
-    Some(Job {
-        robot,
-        task: Task::Rnea,
-        echo,
-    })
+    Some(Job { robot, task, echo })
 }
 
 fn work_for(alloc: Global, robot: &Robot) -> Result<Work, AllocError>
@@ -76,7 +80,7 @@ fn slot_of(alloc: Global, job: &Job, row: u64, up: Iv) -> Result<Slot, AllocErro
 
 // The line of the row of this number in which the first column has this acceleration.
 fn lifted(alloc: Global, job: &Job, row: u64, up: Iv) -> Result<Out, AllocError>
-    requires { job.now.task ≡ Rnea }
+    requires { IsBuilt job.now.task }
 {
     let mut slot = slot_of(alloc, job, row, up)?;
     slot.input = SlotInput::Row;
@@ -99,7 +103,7 @@ fn answered(alloc: Global, job: &Job, row: u64, answer: Answer) -> Result<Out, A
 #[test]
 fn a_lift_is_answered(rt: HostRuntime) -> Result<(), Fail> {
     let alloc = rt.alloc();
-    let job = job_of(alloc, LIFT, false).ok_or("the robot is built")?;
+    let job = job_of(alloc, LIFT, Task::Rnea, false).ok_or("the robot is built")?;
     let line = lifted(
         alloc,
         &job,
@@ -113,10 +117,80 @@ fn a_lift_is_answered(rt: HostRuntime) -> Result<(), Fail> {
     Ok(())
 }
 
+fn drive(robot: &Robot, state: &mut State, k: usize, acceleration: Iv, torque: Iv)
+    requires { Fits robot.now state.old }
+    ensures { Fits robot.now state.new }
+{
+    if k < robot.nv() as usize {
+        state.set_a(k, acceleration);
+        state.set_tau(k, torque);
+    }
+}
+
+// The line of row 1, with 2 and -1 as the first accelerations, and 3 and 1 as the first torques.
+fn driven(alloc: Global, job: &Job) -> Result<Out, AllocError>
+    requires { IsBuilt job.now.task }
+{
+    let mut slot = Slot::new(alloc, job)?;
+    slot.row = 1;
+    slot.input = SlotInput::Row;
+    drive(
+        &job.robot,
+        &mut slot.state,
+        0,
+        Iv::new(2 * ONE, 2 * ONE),
+        Iv::new(3 * ONE, 3 * ONE),
+    );
+    drive(
+        &job.robot,
+        &mut slot.state,
+        1,
+        Iv::new(-ONE, -ONE),
+        Iv::ONE,
+    );
+    let mut work = work_for(alloc, &job.robot)?;
+    answer_slot(job, &mut slot, &mut work);
+    line_of(alloc, job, &slot)
+}
+
+// The first joint moves both bodies, so the mass table is 2 1, 1 1; 2 * 2 - 1 = 3, and 2 - 1 = 1.
+#[test]
+fn each_task_has_its_values(rt: HostRuntime) -> Result<(), Fail> {
+    let alloc = rt.alloc();
+    let torques = job_of(alloc, STACK, Task::Rnea, false).ok_or("the robot is built")?;
+    assert_eq!(rt;
+        driven(alloc, &torques)?.bytes(),
+        b"1,ok,,3.000000000000..3.000000000000,1.000000000000..1.000000000000\n".as_slice()
+    );
+    let masses = job_of(alloc, STACK, Task::Crba, false).ok_or("the robot is built")?;
+    assert_eq!(rt;
+        driven(alloc, &masses)?.bytes(),
+        b"1,ok,,2.000000000000..2.000000000000,1.000000000000..1.000000000000,1.000000000000..1.000000000000\n".as_slice()
+    );
+    let accelerations = job_of(alloc, STACK, Task::Fd, false).ok_or("the robot is built")?;
+    assert_eq!(rt;
+        driven(alloc, &accelerations)?.bytes(),
+        b"1,ok,,2.000000000000..2.000000000000,-1.000000000000..-1.000000000000\n".as_slice()
+    );
+    Ok(())
+}
+
+// Nothing tells how a joint moves that nothing hangs on.
+#[test]
+fn pivots_are_refused(rt: HostRuntime) -> Result<(), Fail> {
+    let alloc = rt.alloc();
+    let job = job_of(alloc, LEAF, Task::Fd, false).ok_or("the robot is built")?;
+    assert_eq!(rt;
+        driven(alloc, &job)?.bytes(),
+        b"1,pivot,D[1]=0.000000000000..0.000000000000,\n".as_slice()
+    );
+    Ok(())
+}
+
 #[test]
 fn numbers_are_told_with_the_answer(rt: HostRuntime) -> Result<(), Fail> {
     let alloc = rt.alloc();
-    let job = job_of(alloc, LIFT, true).ok_or("the robot is built")?;
+    let job = job_of(alloc, LIFT, Task::Rnea, true).ok_or("the robot is built")?;
     let line = lifted(
         alloc,
         &job,
@@ -134,10 +208,10 @@ fn numbers_are_told_with_the_answer(rt: HostRuntime) -> Result<(), Fail> {
 #[test]
 fn sizes_are_refused(rt: HostRuntime) -> Result<(), Fail> {
     let alloc = rt.alloc();
-    let job = job_of(alloc, HEAVY, false).ok_or("the robot is built")?;
+    let job = job_of(alloc, HEAVY, Task::Rnea, false).ok_or("the robot is built")?;
     let line = lifted(alloc, &job, 1, Iv::new(ONE * ONE, ONE * ONE))?;
     assert_eq!(rt; line.bytes(), b"1,size,b[2],\n".as_slice());
-    let told = job_of(alloc, HEAVY, true).ok_or("the robot is built")?;
+    let told = job_of(alloc, HEAVY, Task::Rnea, true).ok_or("the robot is built")?;
     let line = lifted(alloc, &told, 1, Iv::new(ONE * ONE, ONE * ONE))?;
     assert_eq!(rt;
         line.bytes(),
@@ -149,7 +223,7 @@ fn sizes_are_refused(rt: HostRuntime) -> Result<(), Fail> {
 #[test]
 fn bad_fields_tell_no_numbers(rt: HostRuntime) -> Result<(), Fail> {
     let alloc = rt.alloc();
-    let job = job_of(alloc, LIFT, true).ok_or("the robot is built")?;
+    let job = job_of(alloc, LIFT, Task::Rnea, true).ok_or("the robot is built")?;
     let fault = FieldFault {
         kind: FieldKind::NotNumber,
         field: 3,
@@ -162,7 +236,7 @@ fn bad_fields_tell_no_numbers(rt: HostRuntime) -> Result<(), Fail> {
 #[test]
 fn causes_are_told(rt: HostRuntime) -> Result<(), Fail> {
     let alloc = rt.alloc();
-    let job = job_of(alloc, LIFT, false).ok_or("the robot is built")?;
+    let job = job_of(alloc, LIFT, Task::Rnea, false).ok_or("the robot is built")?;
     let name = Name::one(NameKind::q, 2);
     let range = Answer::Refused(RowFault::Range { name });
     assert_eq!(rt;
@@ -202,7 +276,7 @@ fn types_are_shared(_rt: HostRuntime) {
 #[test]
 fn slots_without_a_state_are_answered(rt: HostRuntime) -> Result<(), Fail> {
     let alloc = rt.alloc();
-    let job = job_of(alloc, LIFT, false).ok_or("the robot is built")?;
+    let job = job_of(alloc, LIFT, Task::Rnea, false).ok_or("the robot is built")?;
     let mut slot = Slot::new(alloc, &job)?;
     let mut work = work_for(alloc, &job.robot)?;
     answer_slot(&job, &mut slot, &mut work);
