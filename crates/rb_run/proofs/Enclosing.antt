@@ -4,12 +4,12 @@ use Rattle.std.specs.Prelude.{slice_get}
 use Rattle.std.specs.Option.{option_map}
 use Rattle.std.proofs.lemmas.Option.{slice_get-map}
 use Rattle.std.proofs.lemmas.List.{length-map}
-use Rattle.rb_frac.specs.Frac.{Frac, Same, fracs}
+use Rattle.rb_frac.specs.Frac.{fracs}
 use Rattle.rb_num.specs.Interval.{Interval}
 use Rattle.rb_num.specs.Fraction.{LiesIn}
 use Rattle.rb_num.proofs.Same.{lies_in_same}
-use Rattle.rb_flat.specs.Choice.{Choice, IsChoice}
-use Rattle.rb_flat.specs.Dynamics.{IsMassTable, at_unit, no_force}
+use Rattle.rb_flat.specs.Choice.{Choice}
+use Rattle.rb_flat.specs.Dynamics.{at_unit, no_force}
 use Rattle.rb_flat.specs.Mechanism.{mechanism_of}
 use Rattle.rb_flat.proofs.OneSolution.{inverse_has_one_solution}
 use Rattle.rb_sweep.specs.Sweep.{upward, counting_up}
@@ -17,10 +17,11 @@ use Rattle.rb_urdf.proofs.Zips.{slice_get-of_map}
 use Rattle.rb_work.specs.View.{View, T_at, x_at, mass_at}
 use Rattle.rb_tree.specs.Columns.{column_count}
 use Rattle.rb_tree.specs.Robot.{Tree, HasColumn, AreBodies}
-use Rattle.rb_tree.specs.Shape.{shape_of, brackets_of}
-use Rattle.rb_tree.specs.State.{Row, state_brackets}
+use Rattle.rb_tree.specs.Shape.{shape_of}
+use Rattle.rb_tree.specs.State.{Row}
 use Rattle.rb_tree.proofs.ColumnsFit.{columns_fit, parents_first}
 use Rattle.rb_rnea.specs.Dynamics.{EnclosesDynamics, torques_in}
+use Rattle.rb_mass.specs.Encloses.{MassLies, EnclosesRowMass}
 use Rattle.rb_contact.specs.Forward.{EnclosesForward, accelerations_in}
 use Rattle.rb_rows.specs.Head.{pairs_of}
 use Rattle.rb_rows.specs.declared.task.Task.TheVariants as task
@@ -84,14 +85,8 @@ accelerations_enclose tree row w encloses = record {
 }
 
 -- ---- the mass table
--- a mass table of a choice lies in the one that a work holds
-pub record MassesLie (tree : Tree) (w : View) (choice : Choice) : Type 0 where
-  pub table : ℕ → ℕ → Frac
-  pub is : IsMassTable (shape_of tree) (mechanism_of (shape_of tree) choice) table
-  pub lies : (c d : ℕ) → HasColumn tree c → HasColumn tree d → LiesIn (table c d) (mass_at w c d)
-
 module _ (tree : Tree) (kept : AreBodies tree.bodies) (w : View) where
-  column_lies : (choice : Choice) → MassesLie tree w choice → (d : ℕ) → HasColumn tree d → HasMassesWithin tree choice (masses_in tree w) d
+  column_lies : (choice : Choice) → MassLies tree (mechanism_of (shape_of tree) choice) w → (d : ℕ) → HasColumn tree d → HasMassesWithin tree choice (masses_in tree w) d
   column_lies choice lie d column =
       let one = inverse_has_one_solution (shape_of tree) (at_unit fracs (mechanism_of (shape_of tree) choice) d) (no_force fracs) (parents_first tree kept) (columns_fit tree kept) in
       record {
@@ -102,15 +97,16 @@ module _ (tree : Tree) (kept : AreBodies tree.bodies) (w : View) where
             let same : (c, d) ≡ has.0 = same_some (sym pair ∙ has.1) in
             let value : mass_at w c d ≡ mass = ap (mass_of_pair w) same ∙ has.2 in
             let first : HasColumn tree c = record { from = is_pair.from; to = omega (arith, is_pair.order, is_pair.to) } in
-            let agrees = lie.is.entry c d one.solution (record { from = first.from; to = first.to }) (record { from = column.from; to = column.to }) one.solves in
-            subst (λ v. LiesIn (one.solution.torque c) v) value (lies_in_same (lie.table c d) (one.solution.torque c) (mass_at w c d) agrees (lie.lies c d first column));
+            let table = lie.exists.0 in
+            let agrees = lie.exists.1.entry c d one.solution (record { from = first.from; to = first.to }) (record { from = column.from; to = column.to }) one.solves in
+            subst (λ v. LiesIn (one.solution.torque c) v) value (lies_in_same (table c d) (one.solution.torque c) (mass_at w c d) agrees (lie.lies table lie.exists.1 c d first column));
       }
     where
       same_some : {X : Type 0} {x y : X} → Some x ≡ Some y → x ≡ y
       same_some is = cc
 
-  pub masses_enclose : (row : Row) → ((choice : Choice) → IsChoice (brackets_of tree) (state_brackets row) choice → MassesLie tree w choice) → Encloses task.Crba tree row (masses_in tree w)
-  masses_enclose row lie = record {
+  pub masses_enclose : (row : Row) → EnclosesRowMass tree row w → Encloses task.Crba tree row (masses_in tree w)
+  masses_enclose row encloses = record {
     count = length-map (pairs_of (column_count tree.bodies)) (mass_of_pair w) ∙ pairs_counted (column_count tree.bodies);
-    each = λ choice chosen. column_lies choice (lie choice chosen);
+    each = λ choice chosen. column_lies choice (encloses.at choice chosen);
   }

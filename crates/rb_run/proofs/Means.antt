@@ -3,7 +3,6 @@ use Rattle.std.proofs.Common.{◌≡◌, List, Result, Ok, Err, refl, sym, ap, �
 use Rattle.rb_num.specs.Interval.{Interval}
 use Rattle.rb_result.specs.Steps.{◌>>=◌}
 use Rattle.rb_result.proofs.Results.{then-ok, same_ok}
-use Rattle.rb_flat.specs.Choice.{IsChoice}
 use Rattle.rb_tree.specs.Columns.{column_count}
 use Rattle.rb_tree.specs.Robot.{Tree, AreBodies}
 use Rattle.rb_tree.specs.State.{Row}
@@ -16,9 +15,9 @@ use Rattle.rb_contact.specs.Forward as Forward
 use Rattle.rb_rows.specs.Head.{IsBuilt}
 use Rattle.rb_rows.specs.declared.task.Task.{Task}
 use Rattle.rb_rows.specs.declared.task.Task.TheVariants as task
-use Rattle.rb_run.specs.Answers.{AnswerMeans, upper_of, masses_in}
+use Rattle.rb_run.specs.Answers.{AnswerMeans, upper_of}
 use Rattle.rb_run.specs.Meaning.{Encloses}
-use Rattle.rb_run.proofs.Enclosing.{MassesLie, torques_enclose, accelerations_enclose, masses_enclose}
+use Rattle.rb_run.proofs.Enclosing.{torques_enclose, accelerations_enclose, masses_enclose}
 use Rattle.rb_run.proofs.Upper.{upper_is}
 
 -- a step that is never refused leaves refusals as they are
@@ -28,10 +27,6 @@ refused_first (Err d) f e is = let same : d ≡ e = cc in ap Err same
 
 refused_then : {A B E : Type 0} (r : Result A E) (f : A → B) (e : E) → r ≡ Err e → (r >>= λ x. Ok (f x)) ≡ Err e
 refused_then r f e is = rw is refl
-
--- what a work holds for the mass table lies in it
-pub masses_lie : (tree : Tree) (row : Row) (kept : AreBodies tree.bodies) (w : View) → Table.EnclosesTable tree row w → Encloses task.Crba tree row (masses_in tree w)
-masses_lie tree row kept w encloses = masses_enclose tree kept w row (λ choice chosen. let lie = encloses.at choice chosen in record { table = lie.table; is = lie.is; lies = lie.lies })
 
 module _ (tree : Tree) (row : Row) (kept : AreBodies tree.bodies) where
   torques_mean : Inverse.AnswerMeans tree row → Inverse.AnswerEncloses tree row → AnswerMeans task.Rnea tree row
@@ -49,7 +44,7 @@ module _ (tree : Tree) (row : Row) (kept : AreBodies tree.bodies) where
         let step = then-ok (Mass.answer_of tree row) (λ table. Ok (upper table)) values is in
         let found = (means.values step.0).0 step.1 in
         let same : upper step.0 ≡ values = same_ok (upper step.0) values step.2 in
-        subst (Encloses task.Crba tree row) (sym (upper_is tree found.0) ∙ ap upper found.3 ∙ same) (masses_lie tree row kept found.0 (encloses.values found.0 found.1 found.2));
+        subst (Encloses task.Crba tree row) (sym (upper_is tree found.0) ∙ ap upper found.4 ∙ same) (masses_enclose tree kept found.0 row (encloses.values found.0 found.1 found.2 found.3));
     refused = λ fault.
         ((λ is. (means.refused fault).0 (refused_first (Mass.answer_of tree row) (upper_of (column_count tree.bodies)) fault is)),
         (λ refused. refused_then (Mass.answer_of tree row) (upper_of (column_count tree.bodies)) fault ((means.refused fault).1 refused)));

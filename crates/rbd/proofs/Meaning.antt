@@ -1,5 +1,5 @@
 -- What the lines of a run mean.
-use Rattle.std.proofs.Common.{◌≡◌, ◌+◌, ℕ, zero, suc, List, [], ◌∷◌, Bool, true, false, cond, ◌||◌, IsTrue, length, take_while, Option, Some, None, Result, Ok, Err, refl, sym, ap, ◌∙◌, ◌⊎◌, inl, inr, arith}
+use Rattle.std.proofs.Common.{◌≡◌, ◌+◌, ℕ, zero, suc, List, [], ◌∷◌, Bool, true, false, cond, ◌||◌, IsTrue, length, take_while, Option, Some, None, Result, Ok, Err, refl, sym, ap, ◌∙◌, ◌⊎◌, inl, inr, arith, subst}
 use Rattle.std.specs.Prelude.{slice_get}
 use Rattle.std.specs.List.{list_any, prefix_len}
 use Rattle.std.proofs.lemmas.List.{length-map}
@@ -8,17 +8,17 @@ use Rattle.rb_io.specs.Cut.{Line}
 use Rattle.rb_tree.specs.Robot.{Tree, AreBodies}
 use Rattle.rb_tree.specs.State.{Row}
 use Rattle.rb_work.specs.declared.names.RowFault.{RowFault}
-use Rattle.rb_rnea.specs.Dynamics.{AnswerMeans, answer_of}
-use Rattle.rb_rnea.proofs.DynamicsEnclose.{dynamics_enclose}
 use Rattle.rb_model.specs.Model.{model_text}
 use Rattle.rb_rows.specs.Columns.{state_columns}
-use Rattle.rb_rows.specs.Head.{line_of as names_text}
+use Rattle.rb_rows.specs.Head.{IsBuilt as IsBuiltTask, line_of as names_text}
+use Rattle.rb_rows.specs.declared.task.Task.{Task}
 use Rattle.rb_rows.specs.Row.{row_of}
 use Rattle.rb_run.specs.declared.job.Job.{Job}
 use Rattle.rb_run.specs.declared.slot.Slot.{Slot}
-use Rattle.rb_run.specs.Answers.{Told, slot_of, slots_from, is_refused}
+use Rattle.rb_run.specs.Answers.{AnswerMeans, Told, answer_for, slot_of, slots_from, is_refused}
 use Rattle.rb_run.specs.Line.{line_of}
-use Rattle.rb_run.proofs.Enclosing.{torques_enclose}
+use Rattle.rb_words.specs.Words.{IsBuilt}
+use Rattle.rb_words.proofs.Orders.{commands_are_built}
 use Rattle.rb_words.specs.declared.order.Order.{Order}
 use Rattle.rb_words.specs.declared.order.Order.TheVariants as order
 use Rattle.rbd.specs.declared.stop.RowsFault.{RowsFault}
@@ -31,22 +31,22 @@ use Rattle.rbd.specs.Course.{Course, IsCourse, tells, ending, slots_of, lines_of
 use Rattle.rbd.specs.Ends.{status_of, status_of_stop}
 use Rattle.rbd.specs.Headline.{IsAnswered, IsRefusal, Means, AreAnswered, IsPut, IsWritten, IsProved, Headline}
 use Rattle.rbd.specs.Inputs.{Rows, rows_of, inputs_of, long_line, is_long, is_short}
-use Rattle.rbd.specs.Plan.{Plan, job_of}
+use Rattle.rbd.specs.Plan.{Plan, IsPlan, job_of}
 use Rattle.rbd.specs.Run.{Source, Stream, Follows, EndsEarly, HasCourse, Goes}
 
 -- ---- one line
--- what is known of inverse dynamics
-module _ (means : (tree : Tree) (row : Row) → AreBodies tree.bodies → AnswerMeans tree row) where
-  line_means : (job : Job) (kept : AreBodies job.robot.bodies) (number : ℕ) (told : Told) (line : List ℕ) → line ≡ line_of job.echo (slot_of job number told) → Means job number told line
-  line_means job kept number (Err fault) line is = is
-  line_means job kept number (Ok row) line is = by_answer (answer_of job.robot row) refl
+-- what is known of each task
+abbrev EachMeans : Type 0
+EachMeans = (asked : Task) (tree : Tree) (row : Row) → IsBuiltTask asked → AreBodies tree.bodies → AnswerMeans asked tree row
+
+module _ (means : EachMeans) where
+  line_means : (job : Job) → IsBuiltTask job.task → AreBodies job.robot.bodies → (number : ℕ) (told : Told) (line : List ℕ) → line ≡ line_of job.echo (slot_of job number told) → Means job number told line
+  line_means job built kept number (Err fault) line is = is
+  line_means job built kept number (Ok row) line is = by_answer (answer_for job.task job.robot row) refl
     where
-      by_answer : (answer : Result (List Interval) RowFault) → answer_of job.robot row ≡ answer → IsAnswered job number row line ⊎ IsRefusal job number row line
-      by_answer (Ok values) answers =
-          let found = ((means job.robot row kept).values values).0 answers in
-          inl (record { values = values; says = rw answers at is; exact = answers; means = torques_enclose job.robot row found.0 values (dynamics_enclose job.robot row found.0 kept found.1) found.2 })
-      by_answer (Err fault) answers =
-          inr (record { fault = fault; says = rw answers at is; exact = answers; means = ((means job.robot row kept).refused fault).0 answers })
+      by_answer : (answer : Result (List Interval) RowFault) → answer_for job.task job.robot row ≡ answer → IsAnswered job number row line ⊎ IsRefusal job number row line
+      by_answer (Ok values) answers = inl (record { values = values; says = rw answers at is; exact = answers; means = (means job.task job.robot row built kept).values values answers })
+      by_answer (Err fault) answers = inr (record { fault = fault; says = rw answers at is; exact = answers; means = ((means job.task job.robot row built kept).refused fault).0 answers })
 
 -- the line at a place is that of what the row there told
 line_at : (job : Job) (number : ℕ) (told : List Told) (k : ℕ) (here : Told) (line : List ℕ) → slice_get told k ≡ Some here → slice_get (lines_of job (slots_from job number told)) k ≡ Some line
@@ -95,12 +95,16 @@ ending_is None answers refused is = record { none = refl; is = cc }
 ending_is (Some fault) answers refused is = absurd cc
 
 -- ---- a run
-module _ (means : (tree : Tree) (row : Row) → AreBodies tree.bodies → AnswerMeans tree row)
+-- what is asked for is built
+plan_built : (words : List (List ℕ)) (held : List ℕ → List ℕ) (plan : Plan) → IsPlan words held plan → IsBuilt plan.order
+plan_built words held plan planned = subst IsBuilt (ap (λ (p : Plan). p.order) (sym planned.asked)) (commands_are_built words planned.command planned.told)
+
+module _ (means : EachMeans)
     (words : List (List ℕ)) (inputs : Source) (out : Stream) (ended : Status) (refused : Bool) (is : ended ≡ status_of (Ok refused)) (told : IsTrue out.tells) where
-  rows_proved : (job : Job) (asked : Plan) → AreBodies job.robot.bodies → asked.tree ≡ job.robot → (read : Result Rows RowsFault) → rows_of asked.tree (inputs.holds asked.rows) ≡ read → Follows (course_of_rows job asked.start read) out (Ok refused)
+  rows_proved : (job : Job) (asked : Plan) → IsBuiltTask job.task → AreBodies job.robot.bodies → asked.tree ≡ job.robot → (read : Result Rows RowsFault) → rows_of asked.tree (inputs.holds asked.rows) ≡ read → Follows (course_of_rows job asked.start read) out (Ok refused)
       → AreAnswered asked job inputs out ended
-  rows_proved job asked kept same (Err fault) read follows = let e : Ok refused ≡ Err (AtRows fault) = follows.answers refl in absurd cc
-  rows_proved job asked kept same (Ok found) read follows =
+  rows_proved job asked built kept same (Err fault) read follows = let e : Ok refused ≡ Err (AtRows fault) = follows.answers refl in absurd cc
+  rows_proved job asked built kept same (Ok found) read follows =
       let told_all = inputs_of asked.start found in
       let end = ending_is (long_line found) (slots_of job asked.start found) refused (follows.answers refl) in
       record {
@@ -112,7 +116,7 @@ module _ (means : (tree : Tree) (row : Row) → AreBodies tree.bodies → Answer
         count = lines_counted job 1 told_all ∙ inputs_counted asked.start found end.none;
         each = λ k here line there put.
             let number : 1 + k ≡ k + 1 = omega arith in
-            line_means means job kept (k + 1) here line (line_at job 1 told_all k here line there put ∙ ap (λ (m : ℕ). line_of job.echo (slot_of job m here)) number);
+            line_means means job built kept (k + 1) here line (line_at job 1 told_all k here line there put ∙ ap (λ (m : ℕ). line_of job.echo (slot_of job m here)) number);
         status = is ∙ ap (λ (b : Bool). status_of (Ok b)) end.is;
       }
 
@@ -123,14 +127,14 @@ module _ (means : (tree : Tree) (row : Row) → AreBodies tree.bodies → Answer
       let e : refused ≡ false = cc in
       record { put = follows.whole refl told; status = is ∙ ap (λ (b : Bool). status_of (Ok b)) e }
 
-  order_proved : (asked : Plan) → AreBodies asked.tree.bodies → (what : Order) → Follows (course_by what asked inputs.holds) out (Ok refused) → IsWritten what asked inputs out ended
-  order_proved asked kept (order.Rows task) follows = rows_proved (job_of asked task) asked kept refl (rows_of asked.tree (inputs.holds asked.rows)) refl follows
-  order_proved asked kept order.Model follows = text_proved (model_text asked.tree asked.start.q) follows
-  order_proved asked kept order.Columns follows = text_proved (names_text (state_columns asked.tree)) follows
+  order_proved : (asked : Plan) → AreBodies asked.tree.bodies → (what : Order) → IsBuilt what → Follows (course_by what asked inputs.holds) out (Ok refused) → IsWritten what asked inputs out ended
+  order_proved asked kept (order.Rows task) built follows = rows_proved (job_of asked task) asked built kept refl (rows_of asked.tree (inputs.holds asked.rows)) refl follows
+  order_proved asked kept order.Model built follows = text_proved (model_text asked.tree asked.start.q) follows
+  order_proved asked kept order.Columns built follows = text_proved (names_text (state_columns asked.tree)) follows
 
   course_proved : (course : Course) → IsCourse words inputs.holds course → Follows course out (Ok refused) → IsProved words inputs out ended
   course_proved course (IsCourse.stops stop planless) follows = let e : Ok refused ≡ Err stop = follows.answers refl in absurd cc
-  course_proved course (IsCourse.goes plan planned) follows = record { plan = plan; is_plan = planned; written = order_proved plan planned.robot.kept plan.order follows }
+  course_proved course (IsCourse.goes plan planned) follows = record { plan = plan; is_plan = planned; written = order_proved plan planned.robot.kept plan.order (plan_built words inputs.holds plan planned) follows }
 
   never_early : ((Ok refused ≡ Err AtInput) ⊎ (Ok refused ≡ Err Memory)) → IsProved words inputs out ended
   never_early (inl is) = absurd cc
@@ -154,7 +158,6 @@ stop_not_done Output ended is (inr done) = let e : status.OutputFault ≡ status
 stop_not_done Memory ended is (inl done) = let e : status.Memory ≡ status.Done = sym is ∙ done in absurd cc
 stop_not_done Memory ended is (inr done) = let e : status.Memory ≡ status.Refused = sym is ∙ done in absurd cc
 
-pub headline : (means : (tree : Tree) (row : Row) → AreBodies tree.bodies → AnswerMeans tree row)
-    → (words : List (List ℕ)) (inputs : Source) (out : Stream) (ended : Status) (answer : Result Bool Stop) → Goes words inputs out answer → ended ≡ status_of answer → Headline words inputs out ended
+pub headline : EachMeans → (words : List (List ℕ)) (inputs : Source) (out : Stream) (ended : Status) (answer : Result Bool Stop) → Goes words inputs out answer → ended ≡ status_of answer → Headline words inputs out ended
 headline means words inputs out ended (Ok refused) goes is told = steps_proved means words inputs out ended refused is told.out_tells (goes.course told.inputs_tell)
 headline means words inputs out ended (Err stop) goes is told = absurd (stop_not_done stop ended is told.done)

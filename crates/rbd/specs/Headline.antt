@@ -7,11 +7,10 @@ use Rattle.rb_model.specs.Model.{model_text}
 use Rattle.rb_rows.specs.Columns.{state_columns}
 use Rattle.rb_rows.specs.Head.{line_of as text_of_names}
 use Rattle.rb_work.specs.declared.names.RowFault.{RowFault}
-use Rattle.rb_rnea.specs.Dynamics.{IsRefused, answer_of}
 use Rattle.rb_run.specs.declared.job.Job.{Job}
-use Rattle.rb_run.specs.Answers.{Told, done_slot, refused_slot, bad_slot, is_refused}
+use Rattle.rb_run.specs.Answers.{Told, answer_for, done_slot, refused_slot, bad_slot, is_refused}
 use Rattle.rb_run.specs.Line.{line_of}
-use Rattle.rb_run.specs.Meaning.{Encloses}
+use Rattle.rb_run.specs.Meaning.{Encloses, IsRefusedFor}
 use Rattle.rb_words.specs.declared.order.Order.{Order}
 use Rattle.rb_words.specs.declared.order.Order.TheVariants as order
 use Rattle.rbd.specs.declared.status.Status.{Status}
@@ -30,20 +29,20 @@ pub record IsTold (inputs : Source) (out : Stream) (ended : Status) : Type 0 whe
 
 -- ---- rows
 
--- the line says `ok` and these values, which are those of the one answer: for each choice within the brackets of the robot and the row, the equations of motion have exactly one
+-- the line says `ok` and these values, which are those of the one answer: for each choice within the brackets of the robot and the row, the equations of the task have exactly one
 -- solution, and it lies in the values that the line prints
 pub record IsAnswered (job : Job) (number : ℕ) (row : Row) (line : List ℕ) : Type 0 where
   pub values : List Interval
   pub says : line ≡ line_of job.echo (done_slot number row values)
-  pub exact : answer_of job.robot row ≡ Ok values
-  pub means : Encloses job.robot row values
+  pub exact : answer_for job.task job.robot row ≡ Ok values
+  pub means : Encloses job.task job.robot row values
 
 -- the line names the first quantity that is refused, and that is the one answer
 pub record IsRefusal (job : Job) (number : ℕ) (row : Row) (line : List ℕ) : Type 0 where
   pub fault : RowFault
   pub says : line ≡ line_of job.echo (refused_slot job number row fault)
-  pub exact : answer_of job.robot row ≡ Err fault
-  pub means : IsRefused job.robot row fault
+  pub exact : answer_for job.task job.robot row ≡ Err fault
+  pub means : IsRefusedFor job.task job.robot row fault
 
 -- what the line of a row means
 abbrev pub Means : Job → ℕ → Told → List ℕ → Type 0

@@ -5,8 +5,7 @@ ghost use Rattle.rb_io.specs.Calls.{PutsPart};
 ghost use Rattle.rb_result.specs.Steps.{told_as};
 ghost use Rattle.rb_model.specs.Model.{model_text};
 ghost use Rattle.rb_rows.specs.Columns.{state_columns};
-ghost use Rattle.rb_rows.specs.Head.{line_of as text_of_names};
-ghost use Rattle.rb_rows.specs.declared.task.Task.TheVariants.{Rnea};
+ghost use Rattle.rb_rows.specs.Head.{IsBuilt as IsBuiltTask, line_of as text_of_names};
 ghost use Rattle.rb_tree.specs.State.{Fits};
 ghost use Rattle.rb_words.specs.Words.{IsBuilt};
 ghost use Rattle.rbd.specs.Course.{tells as text_course};
@@ -23,9 +22,9 @@ use crate::status::Status;
 use crate::stop::{RowsStop, Stop, of_reading, of_robot, of_rows, of_start, of_words};
 use rb_io::{Inputs, Sink, put_all};
 use rb_model::model_text;
-use rb_rnea::laws::answer_law;
 use rb_rows::column_line;
 use rb_run::Job;
+use rb_run::laws::answer_law;
 use rb_text::Out;
 use rb_tree::{Robot, State};
 use rb_words::{Command, Order, read_words};
@@ -70,7 +69,7 @@ fn answer_rows<I: Inputs, O: Sink>(
     inputs: &mut I,
     out: &mut O,
 ) -> Result<bool, Stop>
-    requires task { job.now.task ≡ Rnea }
+    requires task { IsBuiltTask job.now.task }
     requires start { Fits job.now.robot start.now }
     ensures tells { IsTrue (O.tells out.new) → IsTrue (O.tells out.old) }
     ensures obeys { Obeys (plan (Order.Rows job.now.task) job.now.robot start.now name.now job.now.echo)

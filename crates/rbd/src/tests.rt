@@ -21,6 +21,13 @@ const BOX: &[u8] =
 const PAIR: &[u8] =
     br#"<robot name="pair"><link name="base"/><link name="l1"><inertial><mass value="1"/></inertial></link><link name="l2"><inertial><mass value="1"/></inertial></link><joint name="one" type="prismatic"><parent link="base"/><child link="l1"/><axis xyz="1 0 0"/></joint><joint name="two" type="prismatic"><parent link="l1"/><child link="l2"/><axis xyz="1 0 0"/><mimic joint="one"/></joint></robot>"#;
 
+const STACK: &[u8] =
+    br#"<robot name="stack"><link name="base"/><link name="l1"><inertial><mass value="1"/></inertial></link><link name="l2"><inertial><mass value="1"/></inertial></link><joint name="one" type="prismatic"><parent link="base"/><child link="l1"/><axis xyz="1 0 0"/></joint><joint name="two" type="prismatic"><parent link="l1"/><child link="l2"/><axis xyz="1 0 0"/></joint></robot>"#;
+
+// A hinge that nothing hangs on.
+const LEAF: &[u8] =
+    br#"<robot name="leaf"><link name="base"/><link name="tip"/><joint name="hinge" type="revolute"><parent link="base"/><child link="tip"/><axis xyz="0 1 0"/></joint></robot>"#;
+
 // The poses of the arm.
 const POSE: &[u8] =
     br#"<robot name="arm"><group name="all"><joint name="hinge"/></group><group_state name="half" group="all"><joint name="hinge" value="0.5"/></group_state></robot>"#;
@@ -239,6 +246,80 @@ const WORKED: [(&[&str], &[u8], &[u8], Status, &[u8]); 13] = [
     ),
 ];
 
+// A task over rows, a robot, a table, the status, and what is put.
+const TASKS: [(&str, &[u8], &[u8], Status, &[u8]); 7] = [
+    // the first joint moves both bodies
+    (
+        "crba",
+        STACK,
+        b"q.one\n0\n",
+        Status::Done,
+        b"row,answer,cause,M.1.1,M.1.2,M.2.2\n1,ok,,2.000000000000..2.000000000000,1.000000000000..1.000000000000,1.000000000000..1.000000000000\n",
+    ),
+    // 2 * 2 - 1 = 3, and 2 - 1 = 1
+    (
+        "fd",
+        STACK,
+        b"tau.one,tau.two\n3,1\n",
+        Status::Done,
+        b"row,answer,cause,a.one,a.two\n1,ok,,2.000000000000..2.000000000000,-1.000000000000..-1.000000000000\n",
+    ),
+    // a mass of 1 kg 1 m from the hinge, at each angle
+    (
+        "crba",
+        ARM,
+        b"q.hinge\n0.1..0.2\n",
+        Status::Done,
+        b"row,answer,cause,M.1.1\n1,ok,,1.000000000000..1.000000000000\n",
+    ),
+    // the links move by 1 and 2 m a unit of the first joint: 1 * 1 + 2 * 2
+    (
+        "crba",
+        PAIR,
+        b"q.one\n0\n",
+        Status::Done,
+        b"row,answer,cause,M.1.1\n1,ok,,5.000000000000..5.000000000000\n",
+    ),
+    (
+        "fd",
+        PAIR,
+        b"tau.one\n5\n",
+        Status::Done,
+        b"row,answer,cause,a.one\n1,ok,,1.000000000000..1.000000000000\n",
+    ),
+    (
+        "fd",
+        LEAF,
+        b"tau.hinge\n0\n",
+        Status::Refused,
+        b"row,answer,cause,a.hinge\n1,pivot,D[1]=0.000000000000..0.000000000000,\n",
+    ),
+    // 22.62 / 2 - 9.81
+    (
+        "fd",
+        LIFT,
+        b"tau.lift,a.lift\n22.62\n22.62,\n",
+        Status::Refused,
+        b"row,answer,cause,a.lift\n1,field,Count[1],\n2,ok,,1.500000000000..1.500000000000\n",
+    ),
+];
+
+#[test]
+fn tasks_have_their_values(rt: HostRuntime) -> Result<(), Fail> {
+    for (task, robot, rows, status, out) in TASKS.iter() {
+        let held = Held {
+            robot,
+            poses: b"",
+            rows,
+        };
+        let ran = run_words(rt.alloc(), &["--task", task, "--urdf", "robot.urdf"], held)?;
+        assert_eq!(rt; ran.out.bytes(), *out);
+        assert_eq!(rt; ran.status, *status);
+        assert_eq!(rt; ran.err.bytes(), b"".as_slice());
+    }
+    Ok(())
+}
+
 #[test]
 fn runs_put_what_they_are_asked_for(rt: HostRuntime) -> Result<(), Fail> {
     for (words, robot, rows, status, out) in WORKED.iter() {
@@ -258,7 +339,7 @@ fn runs_put_what_they_are_asked_for(rt: HostRuntime) -> Result<(), Fail> {
 // Words, the poses, the status and the line on standard error. The robot is the arm, and nothing is put.
 const REFUSED: [(&[&str], &[u8], Status, &[u8]); 9] = [
     (
-        &["--task", "fd", "--urdf", "robot.urdf"],
+        &["--task", "aba", "--urdf", "robot.urdf"],
         b"",
         Status::Usage,
         b"rbd: usage: task\n",
