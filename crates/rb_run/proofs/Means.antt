@@ -10,7 +10,7 @@ use Rattle.rb_work.specs.declared.names.RowFault.{RowFault}
 use Rattle.rb_work.specs.View.{View}
 use Rattle.rb_rnea.specs.Dynamics as Inverse
 use Rattle.rb_mass.specs.Mass as Mass
-use Rattle.rb_mass.specs.Encloses as Table
+use Rattle.rb_mass.specs.Encloses.{EnclosesRowMass}
 use Rattle.rb_contact.specs.Forward as Forward
 use Rattle.rb_rows.specs.Head.{IsBuilt}
 use Rattle.rb_rows.specs.declared.task.Task.{Task}
@@ -37,14 +37,18 @@ module _ (tree : Tree) (row : Row) (kept : AreBodies tree.bodies) where
     refused = means.refused;
   }
 
-  masses_mean : Table.AnswerMeans tree row → Table.AnswerEncloses tree row → AnswerMeans task.Crba tree row
+  -- in what a work holds for the row lies the mass table of each choice
+  abbrev MassesLie : Type 0
+  MassesLie = (w : View) → Mass.AreRow tree row w → EnclosesRowMass tree row w
+
+  masses_mean : Mass.AnswerMeans tree row → MassesLie → AnswerMeans task.Crba tree row
   masses_mean means encloses = record {
     values = λ values is.
         let upper = upper_of (column_count tree.bodies) in
         let step = then-ok (Mass.answer_of tree row) (λ table. Ok (upper table)) values is in
         let found = (means.values step.0).0 step.1 in
         let same : upper step.0 ≡ values = same_ok (upper step.0) values step.2 in
-        subst (Encloses task.Crba tree row) (sym (upper_is tree found.0) ∙ ap upper found.4 ∙ same) (masses_enclose tree kept found.0 row (encloses.values found.0 found.1 found.2 found.3));
+        subst (Encloses task.Crba tree row) (sym (upper_is tree found.0) ∙ ap upper found.2 ∙ same) (masses_enclose tree kept found.0 row (encloses found.0 found.1));
     refused = λ fault.
         ((λ is. (means.refused fault).0 (refused_first (Mass.answer_of tree row) (upper_of (column_count tree.bodies)) fault is)),
         (λ refused. refused_then (Mass.answer_of tree row) (upper_of (column_count tree.bodies)) fault ((means.refused fault).1 refused)));
@@ -58,7 +62,7 @@ module _ (tree : Tree) (row : Row) (kept : AreBodies tree.bodies) where
     refused = means.refused;
   }
 
-  pub answer_means : Inverse.AnswerMeans tree row → Inverse.AnswerEncloses tree row → Table.AnswerMeans tree row → Table.AnswerEncloses tree row
+  pub answer_means : Inverse.AnswerMeans tree row → Inverse.AnswerEncloses tree row → Mass.AnswerMeans tree row → MassesLie
       → Forward.ForwardMeans tree row → Forward.ForwardEncloses tree row → (asked : Task) → IsBuilt asked → AnswerMeans asked tree row
   answer_means torques torques_lie masses masses_lie accelerations accelerations_lie task.Rnea built = torques_mean torques torques_lie
   answer_means torques torques_lie masses masses_lie accelerations accelerations_lie task.Crba built = masses_mean masses masses_lie

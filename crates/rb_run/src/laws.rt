@@ -13,5 +13,6 @@ pub fn answer_law()
 {
     rb_rnea::laws::answer_law();
     rb_mass::laws::answer_law();
+    rb_mass::table_law();
     rb_contact::laws::answer_law();
 }
