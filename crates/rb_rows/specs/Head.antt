@@ -16,24 +16,35 @@ task_word For.Aba = codes "aba"
 task_word For.Contact = codes "contact"
 task_word For.Impulse = codes "impulse"
 
+-- the tasks whose rows are answered
+abbrev pub IsBuilt : Task → Type 0
+IsBuilt For.Rnea = Unit {0}
+IsBuilt For.Crba = Unit {0}
+IsBuilt For.Fd = Unit {0}
+IsBuilt task = ⊥
+
 -- ---- lines
 -- names as a record of comma-separated values, or nothing where there are none; ended by LF
 abbrev pub line_of : List (List ℕ) → List ℕ
 line_of [] = codes "\n"
 line_of (name ∷ names) = row_text default_writer (name ∷ names)
 
+-- ---- pairs of columns, which are numbered from 1
+-- column c and each from it on, of so many columns
+abbrev pub pairs_at : ℕ → ℕ → List (ℕ × ℕ)
+pairs_at count c = map (λ d. (c, d)) (range_with_len c (count + 1 - c))
+
+-- each two of so many columns, the lower one first
+abbrev pub pairs_of : ℕ → List (ℕ × ℕ)
+pairs_of count = flat_map (pairs_at count) (range_with_len 1 count)
+
 -- ---- the names of values
--- the entry of the inertia matrix at two columns, which are numbered from 1
-abbrev pub mass_name : ℕ → ℕ → List ℕ
-mass_name c d = codes "M." ++ decimal c ++ codes "." ++ decimal d
+-- the entry of the inertia matrix at two columns
+abbrev pub mass_name : ℕ × ℕ → List ℕ
+mass_name pair = codes "M." ++ decimal pair.0 ++ codes "." ++ decimal pair.1
 
--- those of column c and each from it on
-abbrev pub mass_row : ℕ → ℕ → List (List ℕ)
-mass_row count c = map (mass_name c) (range_with_len c (count + 1 - c))
-
--- those of each two of so many columns, the lower one first
 abbrev pub mass_names : ℕ → List (List ℕ)
-mass_names count = flat_map (mass_row count) (range_with_len 1 count)
+mass_names count = map mass_name (pairs_of count)
 
 -- the values of a task, of which each but an entry of the inertia matrix is named as a column of speeds is, behind its prefix
 abbrev pub value_names : Tree → Task → List (List ℕ)

@@ -5,7 +5,7 @@ ghost use Rattle.csv.specs.Writing.{default_writer, row_text};
 ghost use Rattle.rb_tree.specs.Columns.{column_count};
 ghost use Rattle.rb_tree.specs.declared.sizes.TheConstants.{MAX_COLUMNS};
 ghost use Rattle.rb_rows.specs.Columns.{behind, state_columns};
-ghost use Rattle.rb_rows.specs.Head.{line_of, mass_name, mass_row, mass_names, value_names, echoed_names, head_fields};
+ghost use Rattle.rb_rows.specs.Head.{line_of, pairs_at, mass_name, mass_names, value_names, echoed_names, head_fields};
 
 use crate::columns::{column_texts, put_columns};
 use crate::task::Task;
@@ -80,7 +80,7 @@ pub fn column_line(alloc: Global, robot: &Robot) -> Result<Text, AllocError>
 
 /// The name of the entry of the inertia matrix at two columns.
 fn mass_name(alloc: Global, c: u32, d: u32) -> Result<String, AllocError>
-    ensures { IfOk result (λ name. string_bytes name ≡ mass_name c d) }
+    ensures { IfOk result (λ name. string_bytes name ≡ mass_name (c, d)) }
 {
     let mut buffer = Buffer::new();
     let mut name = String::from_str(alloc, "M.")?;
@@ -99,7 +99,7 @@ fn put_mass_row(
 ) -> Result<(), AllocError>
     requires within { c ≤ count }
     requires few { count ≤ MAX_COLUMNS }
-    ensures { OnOk result (map string_bytes texts.new.items ≡ map string_bytes texts.old.items ++ mass_row count c) }
+    ensures { OnOk result (map string_bytes texts.new.items ≡ map string_bytes texts.old.items ++ map mass_name (pairs_at count c)) }
 {
     for d in c..count + 1 {
         let name = mass_name(alloc, c, d)?;
