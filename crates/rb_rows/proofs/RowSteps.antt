@@ -1,6 +1,6 @@
 -- The fields of a row, one by one.
 use Rattle.std.proofs.Common.{◌≡◌, ◌<◌, ◌≤◌, ◌+◌, ℕ, zero, suc, List, [], ◌∷◌, length, drop, get_or, Option, Some, None, Result, Ok, Err, Bool, true, false, cond, refl, ◌∙◌, ap, sym, arith, drop-cons, add-one}
-use Rattle.std.specs.Prelude.{is_some}
+use Rattle.std.specs.Prelude.{is_some, OnOk, IfErr}
 use Rattle.rb_result.specs.Steps.{◌>>=◌}
 use Rattle.rb_tree.specs.Robot.{Tree}
 use Rattle.rb_tree.specs.State.{Row, Fits}
@@ -9,7 +9,7 @@ use Rattle.rb_rows.specs.declared.header.Target.{Target}
 use Rattle.rb_rows.specs.declared.header.Target.TheVariants as To
 use Rattle.rb_rows.specs.Header.{HasPlace, HasPlaces}
 use Rattle.rb_rows.specs.Record.{fields_in}
-use Rattle.rb_rows.specs.Row.{told, filled, row_told, row_of, IsAlike}
+use Rattle.rb_rows.specs.Row.{told, filled, filled_from, row_told, row_of, IsAlike}
 
 -- ---- what stays
 pub alike_same : (row : Row) → IsAlike row row
@@ -36,9 +36,6 @@ place_of (target ∷ targets) row zero d h within = h.0
 place_of (target ∷ targets) row (suc k) d h within = place_of targets row k d h.1 (omega arith)
 
 -- ---- the fields from a place on
-abbrev pub filled_from : List Target → List (List ℕ) → ℕ → Row → Result Row FieldFault
-filled_from targets fields index row = filled (index + 1) (drop index targets) (drop index fields) row
-
 left : {A : Type 0} (xs : List A) (index : ℕ) (d x : A) → index < length xs → get_or xs index d ≡ x → drop index xs ≡ x ∷ drop (index + 1) xs
 left xs index d x within here = drop-cons xs index d within ∙ ap (λ y. y ∷ drop (suc index) xs) here ∙ ap (λ n. x ∷ drop n xs) (sym (add-one index))
 
@@ -59,6 +56,15 @@ module _ (targets : List Target) (fields : List (List ℕ)) (index : ℕ) (d tar
   pub filled_fault : (fault : FieldFault) → told target number field row ≡ Err fault → filled_from targets fields index row ≡ Err fault
   filled_fault fault told_is = from_told (Err fault) told_is
 
+  -- so a call that reads it goes on, or has the fault
+  pub filled_ok : {A : Type 0} (new : Row) (r : Result A FieldFault) → OnOk r (told target number field row ≡ Ok new) → OnOk r (filled_from targets fields index row ≡ filled_from targets fields (index + 1) new)
+  filled_ok new (Ok x) reads = filled_more new reads
+  filled_ok new (Err fault) reads = reads
+
+  pub filled_err : {A : Type 0} (r : Result A FieldFault) → IfErr r (λ fault. told target number field row ≡ Err fault) → IfErr r (λ fault. filled_from targets fields index row ≡ Err fault)
+  filled_err (Ok x) reads = reads
+  filled_err (Err fault) reads = filled_fault fault reads
+
 none_left : {A : Type 0} (xs : List A) (index : ℕ) → length xs ≤ index → drop index xs ≡ []
 none_left [] zero h = refl
 none_left [] (suc index) h = refl
@@ -68,6 +74,21 @@ none_left (x ∷ xs) (suc index) h = none_left xs index (omega arith)
 pub filled_none : (targets : List Target) (fields : List (List ℕ)) (index : ℕ) (row : Row) → length targets ≤ index → filled_from targets fields index row ≡ Ok row
 unfolding filled
 filled_none targets fields index row past = rw (none_left targets index past) refl
+
+-- the fields before a place are read
+pub record AreRead (targets : List Target) (fields : List (List ℕ)) (old new : Row) (index : ℕ) : Type 0 where
+  pub whole : filled 1 targets fields old ≡ filled_from targets fields index new
+  pub alike : IsAlike old new
+
+pub read_none : (targets : List Target) (fields : List (List ℕ)) (row : Row) → AreRead targets fields row row 0
+read_none targets fields row = record { whole = refl; alike = alike_same row }
+
+pub read_more : (targets : List Target) (fields : List (List ℕ)) (old mid new : Row) (index : ℕ) → AreRead targets fields old mid index
+    → filled_from targets fields index mid ≡ filled_from targets fields (index + 1) new → IsAlike mid new → AreRead targets fields old new (index + 1)
+read_more targets fields old mid new index so_far more alike = record { whole = so_far.whole ∙ more; alike = alike_then old mid new so_far.alike alike }
+
+pub read_whole : (targets : List Target) (fields : List (List ℕ)) (old new : Row) (index : ℕ) → length targets ≤ index → AreRead targets fields old new index → filled 1 targets fields old ≡ Ok new
+read_whole targets fields old new index past so_far = so_far.whole ∙ filled_none targets fields index new past
 
 -- ---- whether there is a record
 pub record_is : (line : Option (List (List ℕ))) (one : Bool) (fields : List (List ℕ)) → one ≡ is_some line → (one ≡ true → line ≡ Some fields) → line ≡ cond one (Some fields) None

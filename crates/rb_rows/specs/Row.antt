@@ -1,5 +1,5 @@
 -- The state that a line tells.
-use Rattle.std.specs.Prelude.{◌≡◌, ℕ, ◌+◌, ◌==◌, List, [], ◌∷◌, if◌then◌else◌, length, slice_set, Option, Some, None, Result, Ok, Err}
+use Rattle.std.specs.Prelude.{◌≡◌, ℕ, ◌+◌, ◌==◌, List, [], ◌∷◌, if◌then◌else◌, drop, length, slice_set, Option, Some, None, Result, Ok, Err}
 use Rattle.rb_result.specs.Steps.{◌>>=◌, placed}
 use Rattle.rb_num.specs.Interval.{Interval}
 use Rattle.rb_text.specs.Bracket.{bracket_of}
@@ -35,6 +35,10 @@ told target number (byte ∷ bytes) row = placed text_fault number (bracket_of (
 unfoldable pub filled : ℕ → List Target → List (List ℕ) → Row → Result Row FieldFault
 filled number (target ∷ targets) (field ∷ fields) row = told target number field row >>= filled (number + 1) targets fields
 filled number targets fields row = Ok row
+
+-- the row with the brackets of the fields from a place on
+abbrev pub filled_from : List Target → List (List ℕ) → ℕ → Row → Result Row FieldFault
+filled_from targets fields index row = filled (index + 1) (drop index targets) (drop index fields) row
 
 -- the row that a record tells, where it has one field for each target
 abbrev pub row_with : List Target → List (List ℕ) → Row → Result Row FieldFault

@@ -1,4 +1,4 @@
-ghost use Rattle.std.specs.Prelude.{◌≡◌, ◌≤◌, ◌+◌, length, OnOk, IfErr, Ok, Err, Some, None, true, if◌then◌else◌};
+ghost use Rattle.std.specs.Prelude.{◌≡◌, ◌<◌, ◌≤◌, ◌+◌, ℕ, List, [], length, get_or, OnOk, IfErr, Ok, Err, Some, None, true, if◌then◌else◌};
 ghost use Rattle.csv.specs.Records.{fields_of};
 ghost use Rattle.rb_io.specs.declared.lines.TheConstants.{MOST_LINE};
 ghost use Rattle.rb_tree.specs.Robot.{Tree};
@@ -7,7 +7,7 @@ ghost use Rattle.rb_rows.specs.declared.faults.FieldFault.{FieldFault};
 ghost use Rattle.rb_rows.specs.declared.faults.LineFault.TheVariants as LineFault;
 ghost use Rattle.rb_rows.specs.Header.{HasPlace, HasPlaces};
 ghost use Rattle.rb_rows.specs.Record.{parts_of};
-ghost use Rattle.rb_rows.specs.Row.{with_number, told, filled, row_told, row_of, IsAlike};
+ghost use Rattle.rb_rows.specs.Row.{with_number, told, filled, filled_from, row_told, row_of, IsAlike};
 
 use crate::faults::{FieldFault, FieldKind, LineFault, kind_of};
 use crate::header::{Header, Target};
@@ -61,6 +61,23 @@ fn read_field(
     }
 }
 
+/// Reads the field at a place of a record into a state.
+fn read_at(
+    header: &Header,
+    index: usize,
+    field: &[u8],
+    into: &mut State,
+) -> Result<(), FieldFault>
+    requires places { HasPlaces header.now into.old }
+    requires within { index < length header.now }
+    requires few { index ≤ MOST_LINE }
+    ensures ok { (fields : List (List ℕ)) → index < length fields → get_or fields index [] ≡ field.now → OnOk result (filled_from header.now fields index into.old ≡ filled_from header.now fields (index + 1) into.new) }
+    ensures err { (fields : List (List ℕ)) → index < length fields → get_or fields index [] ≡ field.now → IfErr result (λ fault. filled_from header.now fields index into.old ≡ Err fault) }
+    ensures alike { IsAlike into.old into.new }
+{
+    read_field(into, header.targets()[index], index as u32 + 1, field)
+}
+
 /// Reads the fields of a record into a state.
 fn read_fields(header: &Header, fields: &ByteRecord, into: &mut State) -> Result<(), FieldFault>
     requires places { HasPlaces header.now into.old }
@@ -70,10 +87,9 @@ fn read_fields(header: &Header, fields: &ByteRecord, into: &mut State) -> Result
     ensures err { IfErr result (λ fault. filled 1 header.now (fields_of fields.now) into.old ≡ Err fault) }
     ensures alike { IsAlike into.old into.new }
 {
-    let targets = header.targets();
-    for index in 0..targets.len() {
+    for index in 0..header.targets().len() {
         let field = fields.get(index).unwrap_or(b"");
-        read_field(into, targets[index], index as u32 + 1, field)?;
+        read_at(header, index, field, into)?;
     }
     Ok(())
 }
@@ -130,11 +146,10 @@ fn read_parts(header: &Header, line: &[u8], into: &mut State) -> Result<(), Fiel
     ensures err { IfErr result (λ fault. filled 1 header.now (parts_of line.now) into.old ≡ Err fault) }
     ensures alike { IsAlike into.old into.new }
 {
-    let targets = header.targets();
     let mut rest = line;
-    for index in 0..targets.len() {
+    for index in 0..header.targets().len() {
         let (part, others) = first_field(rest);
-        read_field(into, targets[index], index as u32 + 1, part)?;
+        read_at(header, index, part, into)?;
         rest = others;
     }
     Ok(())

@@ -1,43 +1,30 @@
-use Rattle.std.proofs.Common.{◌<◌, ◌∙◌, ap, sym, subst, arith, length, get_or}
+use Rattle.std.proofs.Common.{◌<◌, ◌∙◌, ap, arith, length}
 use Rattle.std.proofs.lemmas.Result.{err_from_is_err_and}
 use Rattle.csv.specs.Records.{fields_of}
-use Rattle.rb_rows.specs.declared.header.Target.TheVariants as To
-use Rattle.rb_rows.specs.Header.{HasPlace}
 use Rattle.rb_rows.proofs.HeaderSteps.{field_here}
-use Rattle.rb_rows.proofs.RowSteps.{alike_then, places_stay, place_of, filled_more, filled_fault, filled_none}
+use Rattle.rb_rows.proofs.RowSteps.{places_stay, read_none, read_more, read_whole}
 use Rattle.rb_rows.proofs.row.read_fields.Goals as goal
 
-pub read_field-requires : goal.read_field-requires
-read_field-requires c =
-    let some : c.loop-index.index < length c.args.header.now = omega (arith, ap length c.targets-targets.ensures, c.loop-index-test.true) in
-    subst (λ targets. HasPlace c.loop-index.into (get_or targets c.loop-index.index To.Remark)) (sym c.targets-targets.ensures)
-    (place_of c.args.header.now c.loop-index.into c.loop-index.index To.Remark (places_stay _ c.loop-index.into c.loop-index.invariant.alike c.args.header.now c.requires.places) some)
+pub loop-index-init : goal.loop-index-init
+loop-index-init c = read_none _ _ _
 
-pub returns-in_err-read_field-clause-err : goal.returns-in_err-read_field-clause-err
-returns-in_err-read_field-clause-err c =
+pub read_at-requires-clause-places : goal.read_at-requires-clause-places
+read_at-requires-clause-places c = places_stay _ c.loop-index.into c.loop-index.invariant.alike c.args.header.now c.requires.places
+
+pub returns-in_err-read_at-clause-err : goal.returns-in_err-read_at-clause-err
+returns-in_err-read_at-clause-err c =
     let fields = fields_of c.args.fields.now in
-    let some : c.loop-index.index < length c.args.header.now = omega (arith, ap length c.targets-targets.ensures, c.loop-index-test.true) in
-    let within : c.loop-index.index < length fields = omega (arith, some, c.requires.count) in
+    let within : c.loop-index.index < length fields = omega (arith, ap length c.targets-index-end.ensures, c.loop-index-test.true, c.requires.count) in
     let here = field_here fields c.loop-index.index c.get.result _ c.unwrap_or-field.result within c.get.ensures.value c.unwrap_or-field.ensures in
     let p = err_from_is_err_and c.from_residual.result c.from_residual.ensures.1 in
-    rw (p.1, p.2) (c.loop-index.invariant.whole
-    ∙ filled_fault c.args.header.now fields c.loop-index.index To.Remark _ c.unwrap_or-field.result.now c.loop-index.into some within
-    (ap (λ targets. get_or targets c.loop-index.index To.Remark) (sym c.targets-targets.ensures)) here _ (omega arith) _ c.in_err-read_field.ensures.err)
+    rw (p.1, p.2) (c.loop-index.invariant.whole ∙ c.in_err-read_at.ensures.err fields within here)
 
 pub loop-index-preserved : goal.loop-index-preserved
 loop-index-preserved c =
     let fields = fields_of c.args.fields.now in
-    let some : c.loop-index.index < length c.args.header.now = omega (arith, ap length c.targets-targets.ensures, c.loop-index-test.true) in
-    let within : c.loop-index.index < length fields = omega (arith, some, c.requires.count) in
+    let within : c.loop-index.index < length fields = omega (arith, ap length c.targets-index-end.ensures, c.loop-index-test.true, c.requires.count) in
     let here = field_here fields c.loop-index.index c.get.result _ c.unwrap_or-field.result within c.get.ensures.value c.unwrap_or-field.ensures in
-    record {
-      whole =
-          c.loop-index.invariant.whole
-          ∙ filled_more c.args.header.now fields c.loop-index.index To.Remark _ c.unwrap_or-field.result.now c.loop-index.into some within
-          (ap (λ targets. get_or targets c.loop-index.index To.Remark) (sym c.targets-targets.ensures)) here _ (omega arith) c.read_field.new.state c.in_ok-read_field.ensures.ok;
-      alike = alike_then _ c.loop-index.into _ c.loop-index.invariant.alike c.in_ok-read_field.ensures.alike;
-    }
+    read_more _ _ _ _ _ c.loop-index.index c.loop-index.invariant (c.in_ok-read_at.ensures.ok fields within here) c.in_ok-read_at.ensures.alike
 
 pub returns-clause-ok : goal.returns-clause-ok
-returns-clause-ok c =
-    c.loop-index.invariant.whole ∙ filled_none c.args.header.now (fields_of c.args.fields.now) c.loop-index.index c.loop-index.into (omega (arith, ap length c.targets-targets.ensures, c.loop-index-test.false))
+returns-clause-ok c = read_whole _ _ _ _ c.loop-index.index (omega (arith, ap length c.targets-index-end.ensures, c.loop-index-test.false)) c.loop-index.invariant
