@@ -1,10 +1,9 @@
 -- What the values of a task enclose.
-use Rattle.std.proofs.Common.{◌≡◌, ◌<◌, ◌+◌, ◌-◌, ℕ, zero, suc, List, length, map, Option, Some, None, refl, sym, ap, ◌∙◌, arith, subst}
+use Rattle.std.proofs.Common.{◌≡◌, ◌<◌, ◌≤◌, ◌+◌, ℕ, length, map, Some, sym, ap, ◌∙◌, arith, subst}
 use Rattle.std.specs.Prelude.{slice_get}
-use Rattle.std.specs.Option.{option_map}
-use Rattle.std.proofs.lemmas.Option.{slice_get-map}
+use Rattle.std.proofs.lemmas.Option.{get_or_from_slice_get, slice_get_within}
 use Rattle.std.proofs.lemmas.List.{length-map}
-use Rattle.rb_frac.specs.Frac.{fracs}
+use Rattle.rb_frac.specs.Frac.{Frac, fracs}
 use Rattle.rb_num.specs.Interval.{Interval}
 use Rattle.rb_num.specs.Fraction.{LiesIn}
 use Rattle.rb_num.proofs.Same.{lies_in_same}
@@ -12,7 +11,8 @@ use Rattle.rb_flat.specs.Choice.{Choice}
 use Rattle.rb_flat.specs.Dynamics.{at_unit, no_force}
 use Rattle.rb_flat.specs.Mechanism.{mechanism_of}
 use Rattle.rb_flat.proofs.OneSolution.{inverse_has_one_solution}
-use Rattle.rb_sweep.specs.Sweep.{upward, counting_up}
+use Rattle.rb_sweep.specs.Sweep.{upward}
+use Rattle.rb_sweep.proofs.Climbing.{length-upward, upward_at}
 use Rattle.rb_urdf.proofs.Zips.{slice_get-of_map}
 use Rattle.rb_work.specs.View.{View, T_at, x_at, mass_at}
 use Rattle.rb_tree.specs.Columns.{column_count}
@@ -30,32 +30,24 @@ use Rattle.rb_run.specs.Meaning.{HasMassesWithin, Encloses}
 use Rattle.rb_run.proofs.Pairs.{IsPair, pairs_counted, pair_at}
 
 -- ---- values of columns
-counted_up : (lo count k x : ℕ) → slice_get (counting_up lo count) k ≡ Some x → (k < count) × (x ≡ lo + k)
-counted_up lo zero k x is = absurd cc
-counted_up lo (suc count) zero x is = let e : lo ≡ x = cc in (omega arith, omega arith)
-counted_up lo (suc count) (suc k) x is = let later = counted_up (lo + 1) count k x is in (omega (arith, later.0), omega (arith, later.1))
-
-counting_long : (lo count : ℕ) → length (counting_up lo count) ≡ count
-counting_long lo zero = refl
-counting_long lo (suc count) = ap suc (counting_long (lo + 1) count)
-
-upward_long : (n : ℕ) → length (upward 1 (n + 1)) ≡ n
-unfolding upward
-upward_long n = let e : n + 1 - 1 ≡ n = omega arith in counting_long 1 (n + 1 - 1) ∙ e
-
-up_to : (n k x : ℕ) → slice_get (upward 1 (n + 1)) k ≡ Some x → (k < n) × (x ≡ k + 1)
-unfolding upward
-up_to n k x is = let found = counted_up 1 (n + 1 - 1) k x is in (omega (arith, found.0), omega (arith, found.1))
+columns_long : (at : ℕ → Interval) (n : ℕ) → length (map at (upward 1 (n + 1))) ≡ n
+columns_long at n = omega (arith, length-map (upward 1 (n + 1)) at, length-upward 1 (n + 1))
 
 -- the value at a place is that of the column
 column_at : (at : ℕ → Interval) (n k : ℕ) (value : Interval) → slice_get (map at (upward 1 (n + 1))) k ≡ Some value → (k < n) × (at (k + 1) ≡ value)
 column_at at n k value is =
-    let found = slice_get-of_map at (upward 1 (n + 1)) k value is in
-    let number = up_to n k found.0 found.1 in
-    (number.0, ap at (sym number.1) ∙ found.2)
+    let columns = upward 1 (n + 1) in
+    let found = slice_get-of_map at columns k value is in
+    let few : k < n = omega (arith, slice_get_within columns k found.0 found.1, length-upward 1 (n + 1)) in
+    let next : 1 + k ≡ k + 1 = omega arith in
+    let number : found.0 ≡ k + 1 = sym (get_or_from_slice_get columns k found.0 0 found.1) ∙ upward_at 1 (n + 1) k 0 (omega (arith, few)) ∙ next in
+    (few, ap at (sym number) ∙ found.2)
 
-columns_long : (at : ℕ → Interval) (n : ℕ) → length (map at (upward 1 (n + 1))) ≡ n
-columns_long at n = length-map (upward 1 (n + 1)) at ∙ upward_long n
+columns_lie : (at : ℕ → Interval) (n : ℕ) (x : ℕ → Frac) → ((c : ℕ) → 1 ≤ c → c ≤ n → LiesIn (x c) (at c)) → (k : ℕ) (value : Interval)
+    → slice_get (map at (upward 1 (n + 1))) k ≡ Some value → LiesIn (x (k + 1)) value
+columns_lie at n x lie k value is =
+    let found = column_at at n k value is in
+    subst (λ v. LiesIn (x (k + 1)) v) found.1 (lie (k + 1) (omega arith) (omega (arith, found.0)))
 
 -- torques of values that are what their rules give enclose
 pub torques_enclose : (tree : Tree) (row : Row) (w : View) → EnclosesDynamics tree row w → Encloses task.Rnea tree row (torques_in tree w)
@@ -63,12 +55,7 @@ torques_enclose tree row w encloses = record {
   count = columns_long (T_at w) (column_count tree.bodies);
   each = λ choice chosen.
       let lie = encloses.at choice chosen in
-      record {
-        one = lie.one;
-        within = λ k torque there.
-            let found = column_at (T_at w) (column_count tree.bodies) k torque there in
-            subst (λ v. LiesIn (lie.one.solution.torque (k + 1)) v) found.1 (lie.lies.torque (k + 1) (record { from = omega arith; to = omega (arith, found.0) }));
-      };
+      record { one = lie.one; within = columns_lie (T_at w) (column_count tree.bodies) lie.one.solution.torque (λ c from to. lie.lies.torque c (record { from = from; to = to })) };
 }
 
 pub accelerations_enclose : (tree : Tree) (row : Row) (w : View) → EnclosesForward tree row w → Encloses task.Fd tree row (accelerations_in tree w)
@@ -76,12 +63,7 @@ accelerations_enclose tree row w encloses = record {
   count = columns_long (x_at w) (column_count tree.bodies);
   each = λ choice chosen.
       let lie = encloses.at choice chosen in
-      record {
-        one = lie.one;
-        within = λ k acceleration there.
-            let found = column_at (x_at w) (column_count tree.bodies) k acceleration there in
-            subst (λ v. LiesIn (lie.one.solution.joint_acceleration (k + 1)) v) found.1 (lie.lies (k + 1) (record { from = omega arith; to = omega (arith, found.0) }));
-      };
+      record { one = lie.one; within = columns_lie (x_at w) (column_count tree.bodies) lie.one.solution.joint_acceleration (λ c from to. lie.lies c (record { from = from; to = to })) };
 }
 
 -- ---- the mass table

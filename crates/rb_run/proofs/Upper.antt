@@ -1,9 +1,11 @@
 -- The entries on and above the diagonal of a mass table, taken from its rows.
-use Rattle.std.proofs.Common.{◌≡◌, ◌<◌, ◌≤◌, ◌+◌, ◌-◌, ℕ, zero, suc, List, [], ◌∷◌, length, map, Some, Result, Ok, Err, refl, sym, ap, ◌∙◌, arith}
+use Rattle.std.proofs.Common.{◌≡◌, ◌≤◌, ◌+◌, ◌-◌, ℕ, suc, List, [], ◌∷◌, length, map, Some, Result, Ok, Err, refl, sym, ap, ◌∙◌, arith}
 use Rattle.std.specs.Prelude.{slice_get, slice_index_or}
+use Rattle.std.proofs.lemmas.List.{get_or-map}
 use Rattle.rb_num.specs.Interval.{Interval, zero_interval}
 use Rattle.rb_result.specs.Steps.{◌>>=◌}
-use Rattle.rb_sweep.specs.Sweep.{Answers, upward, counting_up}
+use Rattle.rb_sweep.specs.Sweep.{Answers, upward}
+use Rattle.rb_sweep.proofs.Climbing.{length-upward, upward_at}
 use Rattle.rb_work.specs.View.{View, mass_at}
 use Rattle.rb_tree.specs.Columns.{column_count}
 use Rattle.rb_tree.specs.Robot.{Tree}
@@ -12,14 +14,10 @@ use Rattle.rb_rows.specs.Head.{pairs_of}
 use Rattle.rb_run.specs.Answers.{entry_of, upper_of, mass_of_pair, masses_in}
 use Rattle.rb_run.proofs.Pairs.{IsPair, pair_at}
 
-counted_at : {X : Type 0} (f : ℕ → X) (lo n k : ℕ) (d : X) → k < n → slice_index_or (map f (counting_up lo n)) k d ≡ f (lo + k)
-counted_at f lo zero k d within = absurd (omega arith)
-counted_at f lo (suc n) zero d within = let e : lo ≡ lo + 0 = omega arith in ap f e
-counted_at f lo (suc n) (suc k) d within = let e : lo + 1 + k ≡ lo + suc k = omega arith in counted_at f (lo + 1) n k d (omega arith) ∙ ap f e
-
 column_of : {X : Type 0} (f : ℕ → X) (n c : ℕ) (d : X) → 1 ≤ c → c ≤ n → slice_index_or (map f (upward 1 (n + 1))) (c - 1) d ≡ f c
-unfolding upward
-column_of f n c d from to = let e : 1 + (c - 1) ≡ c = omega arith in counted_at f 1 (n + 1 - 1) (c - 1) d (omega arith) ∙ ap f e
+column_of f n c d from to =
+    let at : 1 + (c - 1) ≡ c = omega arith in
+    get_or-map f (upward 1 (n + 1)) (c - 1) 0 d (omega (arith, to, from, length-upward 1 (n + 1))) ∙ ap f (upward_at 1 (n + 1) (c - 1) 0 (omega (arith, to, from)) ∙ at)
 
 entry_is : (tree : Tree) (w : View) (c d : ℕ) → IsPair (column_count tree.bodies) c d → entry_of (table_in tree w) (c, d) ≡ mass_at w c d
 entry_is tree w c d pair =
