@@ -62,12 +62,7 @@ fn read_field(
 }
 
 /// Reads the field at a place of a record into a state.
-fn read_at(
-    header: &Header,
-    index: usize,
-    field: &[u8],
-    into: &mut State,
-) -> Result<(), FieldFault>
+fn read_at(header: &Header, index: usize, field: &[u8], into: &mut State) -> Result<(), FieldFault>
     requires places { HasPlaces header.now into.old }
     requires within { index < length header.now }
     requires few { index ≤ MOST_LINE }

@@ -49,9 +49,10 @@ module _ (tree : Tree) (row : Row) (kept : AreBodies tree.bodies) where
         let found = (means.values step.0).0 step.1 in
         let same : upper step.0 ≡ values = same_ok (upper step.0) values step.2 in
         subst (Encloses task.Crba tree row) (sym (upper_is tree found.0) ∙ ap upper found.2 ∙ same) (masses_enclose tree kept found.0 row (encloses found.0 found.1));
-    refused = λ fault.
-        ((λ is. (means.refused fault).0 (refused_first (Mass.answer_of tree row) (upper_of (column_count tree.bodies)) fault is)),
-        (λ refused. refused_then (Mass.answer_of tree row) (upper_of (column_count tree.bodies)) fault ((means.refused fault).1 refused)));
+    refused = λ fault. (
+      (λ is. (means.refused fault).0 (refused_first (Mass.answer_of tree row) (upper_of (column_count tree.bodies)) fault is)),
+      (λ refused. refused_then (Mass.answer_of tree row) (upper_of (column_count tree.bodies)) fault ((means.refused fault).1 refused)),
+    );
   }
 
   accelerations_mean : Forward.ForwardMeans tree row → Forward.ForwardEncloses tree row → AnswerMeans task.Fd tree row

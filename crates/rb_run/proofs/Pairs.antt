@@ -92,9 +92,9 @@ in_rows n c zero k a b some is = absurd cc
 in_rows n c (suc m) k a b some is =
     let others = flat_map (pairs_at n) (range_with_len (c + 1) m) in
     elim (cases_lt k (length (pairs_at n c))) [
-    | inl here ↦ in_row n c k a b some (sym (slice_get-append_left (pairs_at n c) others k here) ∙ is)
-    | inr later ↦ in_rows n (c + 1) m (k - length (pairs_at n c)) a b (omega arith) (sym (behind_row (pairs_at n c) others k (omega (arith, later))) ∙ is)
-  ]
+      | inl here ↦ in_row n c k a b some (sym (slice_get-append_left (pairs_at n c) others k here) ∙ is)
+      | inr later ↦ in_rows n (c + 1) m (k - length (pairs_at n c)) a b (omega arith) (sym (behind_row (pairs_at n c) others k (omega (arith, later))) ∙ is)
+    ]
 
 pub pair_at : (n k c d : ℕ) → slice_get (pairs_of n) k ≡ Some (c, d) → IsPair n c d
 pair_at n k c d is = in_rows n 1 n k c d (omega arith) is

@@ -141,13 +141,7 @@ fn driven(alloc: Global, job: &Job) -> Result<Out, AllocError>
         Iv::new(2 * ONE, 2 * ONE),
         Iv::new(3 * ONE, 3 * ONE),
     );
-    drive(
-        &job.robot,
-        &mut slot.state,
-        1,
-        Iv::new(-ONE, -ONE),
-        Iv::ONE,
-    );
+    drive(&job.robot, &mut slot.state, 1, Iv::new(-ONE, -ONE), Iv::ONE);
     let mut work = work_for(alloc, &job.robot)?;
     answer_slot(job, &mut slot, &mut work);
     line_of(alloc, job, &slot)
