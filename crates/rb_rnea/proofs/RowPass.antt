@@ -112,11 +112,11 @@ apart tree row extent (T_of c) x w k = refl
 apart tree row extent _ x w k = absurd k
 
 -- ---- what the rules read
-v_reads : (tree : Tree) (i : ℕ) (s t : View) → X_at s i ≡ X_at t i → v_at s (parent_at tree.bodies i) ≡ v_at t (parent_at tree.bodies i) → s_at s i ≡ s_at t i → v_rule tree i s ≡ v_rule tree i t
+pub v_reads : (tree : Tree) (i : ℕ) (s t : View) → X_at s i ≡ X_at t i → v_at s (parent_at tree.bodies i) ≡ v_at t (parent_at tree.bodies i) → s_at s i ≡ s_at t i → v_rule tree i s ≡ v_rule tree i t
 unfolding v_rule velocity_by
 v_reads tree i s t hX hv hs = rw (hX, hv, hs) refl
 
-c_reads : (tree : Tree) (i : ℕ) (s t : View) → v_at s i ≡ v_at t i → s_at s i ≡ s_at t i → c_rule tree i s ≡ c_rule tree i t
+pub c_reads : (tree : Tree) (i : ℕ) (s t : View) → v_at s i ≡ v_at t i → s_at s i ≡ s_at t i → c_rule tree i s ≡ c_rule tree i t
 unfolding c_rule turning_by
 c_reads tree i s t hv hs = rw (hv, hs) refl
 
@@ -164,7 +164,7 @@ T_reads tree c s t own each =
     (λ j sum low high. follower_same tree i k j s t sum (each j low (omega arith))) x in
     rw (same _) (rw own refl)
 
-has_body : (tree : Tree) (i : ℕ) → 1 ≤ i → i ≤ length tree.bodies → HasBody tree i
+pub has_body : (tree : Tree) (i : ℕ) → 1 ≤ i → i ≤ length tree.bodies → HasBody tree i
 has_body tree i low high = record { from = low; to = high }
 
 reads : (tree : Tree) (row : Row) → AreBodies tree.bodies → (n : Place) (s t : View) → Own tree n
@@ -271,7 +271,7 @@ unfolding acceleration_step
 acceleration_run tree row extent zero w low = absurd (omega arith)
 acceleration_run tree row extent (suc i) w low = refl
 
-then_run : {S E : Type 0} (p : Naming S E) (r q : S → Result S E) (ms ns : List p.Name) → ((w : S) → r w ≡ run p ms w) → ((w : S) → q w ≡ run p ns w)
+pub then_run : {S E : Type 0} (p : Naming S E) (r q : S → Result S E) (ms ns : List p.Name) → ((w : S) → r w ≡ run p ms w) → ((w : S) → q w ≡ run p ns w)
     → (w : S) → (r w >>= λ t. q t) ≡ run p (ms ++ ns) w
 then_run p r q ms ns hr hq w =
     ap (λ x. (x >>= λ t. q t)) (hr w) ∙ then_same (run p ms w) _ _ hq ∙ sym (run_append p ms ns w)
@@ -388,7 +388,7 @@ module _ (tree : Tree) (row : Row) (kept : AreBodies tree.bodies) where
       record { values = h.reached; first = h.first }
 
   -- ---- one answer
-  room : HasRoom tree (extent_for tree)
+  pub room : HasRoom tree (extent_for tree)
   room = record { bodies = refl; columns = columns_room; ascends = ascends_room }
     where
       columns_room : length (map (up_of tree.bodies) (upward 1 (column_count tree.bodies + 1))) ≡ column_count tree.bodies
