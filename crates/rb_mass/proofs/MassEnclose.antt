@@ -40,7 +40,7 @@ use Rattle.rb_work.specs.View.{View, X_at, I_at, M_at, packed_at, mass_at}
 use Rattle.rb_work.proofs.PathLaws.{on_from_test, is_on_test}
 use Rattle.rb_tree.specs.declared.robot.Body.{Body}
 use Rattle.rb_tree.specs.declared.robot.Mimic.{Mimic}
-use Rattle.rb_tree.specs.Columns.{full_columns, body_at, parent_at, full_at, first_column, body_of_column}
+use Rattle.rb_tree.specs.Columns.{full_columns, body_at, parent_at, full_at, first_column, body_of_column, AreUps}
 use Rattle.rb_tree.specs.Numbers.{joint_at, inertia_at, mimic_at}
 use Rattle.rb_tree.specs.Robot.{Tree, HasBody, HasColumn, AreBodies, mimic_brackets}
 use Rattle.rb_tree.specs.Shape.{kind_at, master_of, master_at, shape_of, no_mimic, brackets_of}
@@ -56,10 +56,10 @@ use Rattle.rb_mass.specs.Entries.{leave, force, H_rule, entry_at}
 use Rattle.rb_mass.specs.Table as Table
 use Rattle.rb_mass.specs.Table.{ups_of, HasPair, is_led, multiplier_at, M_rule}
 use Rattle.rb_mass.specs.Mass.{AreMass}
-use Rattle.rb_mass.specs.Encloses.{EntriesLie, MassLies, PlacesLie, EnclosesMass, EnclosesRowMass, MassEncloses, RowMassEncloses, MassGivesTorques}
+use Rattle.rb_mass.specs.Encloses.{EntriesLie, MassLies, PlacesLie, EnclosesMass, EnclosesRowMass, MassEncloses, RowMassEncloses, RowEncloses, MassGivesTorques}
 use Rattle.rb_mass.proofs.Pass.{Given, Found, BodyWithin, IsWithin, IsPass, entry_of}
 use Rattle.rb_mass.proofs.TablesLie.{apart_nothing, table_lies}
-use Rattle.rb_mass.proofs.Ways.{ups_same}
+use Rattle.rb_mass.proofs.Ways.{ups_same, ups_are}
 use Rattle.rb_mass.proofs.Pattern.{all_lead, no_mimic as none_follows, are_apart}
 
 -- ---- the values
@@ -177,7 +177,7 @@ module _ (tree : Tree) (row : Row) (w : View) (kept : AreBodies tree.bodies) (c 
     followed = λ i master k has e. led tree kept i master k has e;
   }
 
-  module _ (are : AreMass tree w) (room : IsFor tree w) (table : ℕ → ℕ → Frac) (is : IsMassTable (shape_of tree) (mechanism_of (shape_of tree) c) table) where
+  module _ (are : AreMass tree w) (up : AreUps tree.bodies w.up) (table : ℕ → ℕ → Frac) (is : IsMassTable (shape_of tree) (mechanism_of (shape_of tree) c) table) where
     abbrev m : Mechanism Frac
     m = mechanism_of (shape_of tree) c
 
@@ -207,7 +207,7 @@ module _ (tree : Tree) (row : Row) (w : View) (kept : AreBodies tree.bodies) (c 
         second = record { from = hb.from; to = hb.to }
 
         on_path : is_on w.up (max a b) (min a b) ≡ true → IsOn (ups_of tree) b a
-        on_path e = subst (λ (us : List ℕ). IsOn us b a) (ups_same tree w.up room.up) (on_from_test w.up b a (sym (ap₂ (is_on w.up) last least) ∙ e))
+        on_path e = subst (λ (us : List ℕ). IsOn us b a) (ups_same tree w.up up) (on_from_test w.up b a (sym (ap₂ (is_on w.up) last least) ∙ e))
 
         off_path : is_on w.up (max a b) (min a b) ≡ false → IsOn w.up b a → ⊥
         off_path e on = let is : IsTrue false = (is_on_test w.up false b a (sym e ∙ ap₂ (is_on w.up) last least)).1 on in absurd cc
@@ -218,10 +218,10 @@ module _ (tree : Tree) (row : Row) (w : View) (kept : AreBodies tree.bodies) (c 
             (entry_is tree w are a b (record { from = ha.from; order = order; to = hb.to; on = on_path e }))
         go false e =
             let off : IsOn w.up b a → ⊥ = off_path e in
-            let alone = none_follows tree kept w.up room.up a b ha hb order off in
+            let alone = none_follows tree kept w.up up a b ha hb order off in
             lies_in_same fracs.nul (table a b) zero_interval
             (same_sym (table a b) fracs.nul
-            (apart_nothing (shape_of tree) m parents mimics fit table is a b first second (λ i has. all_lead tree i alone) (are_apart tree kept w.up room.up a b ha hb order off)))
+            (apart_nothing (shape_of tree) m parents mimics fit table is a b first second (λ i has. all_lead tree i alone) (are_apart tree kept w.up up a b ha hb order off)))
             to_intervals.zero
 
     both_orders : (a b : ℕ) → mass_at w a b ≡ mass_at w b a
@@ -241,14 +241,14 @@ module _ (tree : Tree) (row : Row) (w : View) (kept : AreBodies tree.bodies) (c 
               (ordered_lies b a hb ha (omega arith)))
         ]
 
-  mass_lies : AreMass tree w → IsFor tree w → MassLies tree (mechanism_of (shape_of tree) c) w
-  mass_lies are room = record {
+  mass_lies : AreMass tree w → AreUps tree.bodies w.up → MassLies tree (mechanism_of (shape_of tree) c) w
+  mass_lies are up = record {
     exists = has_mass_table (shape_of tree) (mechanism_of (shape_of tree) c) (parents_first tree kept) (columns_fit tree kept);
-    lies = λ table is a b ha hb. all_lie are room table is a b ha hb;
+    lies = λ table is a b ha hb. all_lie are up table is a b ha hb;
   }
 
 pub mass_encloses : MassEncloses
-mass_encloses tree w kept room are = record { at = λ row c chosen places. mass_lies tree row w kept c chosen places are room }
+mass_encloses tree w kept room are = record { at = λ row c chosen places. mass_lies tree row w kept c chosen places are room.up }
 
 places_lie : (tree : Tree) (row : Row) (w : View) → AreBodies tree.bodies → ArePlaces tree row w → (c : Choice) → IsChoice (brackets_of tree) (state_brackets row) c
     → PlacesLie tree (mechanism_of (shape_of tree) c) w
@@ -256,7 +256,12 @@ places_lie tree row w kept places c chosen i has = (places_enclose tree row w ke
 
 pub row_mass_encloses : RowMassEncloses
 row_mass_encloses tree row w kept room places are = record {
-  at = λ c chosen. mass_lies tree row w kept c chosen (places_lie tree row w kept places c chosen) are room;
+  at = λ c chosen. mass_lies tree row w kept c chosen (places_lie tree row w kept places c chosen) are room.up;
+}
+
+pub row_encloses : RowEncloses
+row_encloses tree row w kept are = record {
+  at = λ c chosen. mass_lies tree row w kept c chosen (places_lie tree row w kept are.places c chosen) are.masses (ups_are tree w.up are.columns);
 }
 
 pub mass_gives_torques : MassGivesTorques
@@ -269,7 +274,7 @@ mass_gives_torques tree row w c kept room places are chosen =
     record {
       table = some.0;
       is = some.1;
-      lies = (mass_lies tree row w kept c chosen (places_lie tree row w kept places c chosen) are room).lies some.0 some.1;
+      lies = (mass_lies tree row w kept c chosen (places_lie tree row w kept places c chosen) are room.up).lies some.0 some.1;
       gives = λ outside s bias moves at_rest k has. torque_is_linear shape m outside some.0 s bias parents fit some.1 moves at_rest k (record { from = has.from; to = has.to });
     }
 

@@ -179,6 +179,20 @@ ups_same tree up are =
 pub length_ups : (tree : Tree) → length (ups_of tree) ≡ column_count tree.bodies
 length_ups tree = omega (arith, length-map (upward 1 (column_count tree.bodies + 1)) (up_of tree.bodies), length-upward 1 (column_count tree.bodies + 1))
 
+listed_at : (g : ℕ → ℕ) (lo n k : ℕ) → k < n → slice_get (map g (counting_up lo n)) k ≡ Some (g (lo + k))
+listed_at g lo zero k within = absurd (omega arith)
+listed_at g lo (suc n) zero within = let e : lo ≡ lo + 0 = omega arith in ap (λ (m : ℕ). Some (g m)) e
+listed_at g lo (suc n) (suc k) within = let e : lo + 1 + k ≡ lo + suc k = omega arith in listed_at g (lo + 1) n k (omega arith) ∙ ap (λ (m : ℕ). Some (g m)) e
+
+pub ups_are : (tree : Tree) (up : List ℕ) → up ≡ ups_of tree → AreUps tree.bodies up
+unfolding upward
+ups_are tree up is = record {
+  count = ap length is ∙ length_ups tree;
+  at = λ k within.
+      let e : 1 + k ≡ k + 1 = omega arith in
+      ap (λ (us : List ℕ). slice_get us k) is ∙ listed_at (up_of tree.bodies) 1 (column_count tree.bodies + 1 - 1) k (omega arith) ∙ ap (λ (m : ℕ). Some (up_of tree.bodies m)) e;
+}
+
 -- the list tells the column upward
 pub up_listed : (tree : Tree) (d : ℕ) → 1 ≤ d → d ≤ column_count tree.bodies → above (ups_of tree) d ≡ up_of tree.bodies d
 up_listed tree zero low high = absurd (omega arith)

@@ -13,7 +13,7 @@ use Rattle.rb_tree.specs.Robot.{Tree, HasBody, HasColumn, AreBodies}
 use Rattle.rb_tree.specs.Shape.{shape_of, brackets_of}
 use Rattle.rb_tree.specs.State.{Row, state_brackets}
 use Rattle.rb_tree.specs.Places.{IsFor, ArePlaces}
-use Rattle.rb_mass.specs.Mass.{AreMass}
+use Rattle.rb_mass.specs.Mass.{AreMass, AreRow}
 
 -- the entries of a table lie in those of the work, of which each is zero where its two columns are not on one path
 abbrev pub EntriesLie : Tree → (ℕ → ℕ → Frac) → View → Type 0
@@ -58,6 +58,10 @@ MassEncloses = (tree : Tree) (w : View) → AreBodies tree.bodies → IsFor tree
 abbrev pub RowMassEncloses : Type 0
 RowMassEncloses =
     (tree : Tree) (row : Row) (w : View) → AreBodies tree.bodies → IsFor tree w → ArePlaces tree row w → AreMass tree w → EnclosesRowMass tree row w
+
+-- so do those of a row, whatever the work was made for
+abbrev pub RowEncloses : Type 0
+RowEncloses = (tree : Tree) (row : Row) (w : View) → AreBodies tree.bodies → AreRow tree row w → EnclosesRowMass tree row w
 
 -- and the table in them gives the torques of the choice's mechanism
 abbrev pub MassGivesTorques : Type 0
