@@ -1,0 +1,16 @@
+pub mod Children
+pub mod Pass
+pub mod PassLies
+pub mod ReturnLies
+pub mod ForwardLie
+pub mod Bridge
+pub mod Named
+pub mod ValuesPass
+pub mod ForwardEncloses
+pub mod RowNames
+pub mod RowOrder
+pub mod RowAnswer
+pub mod Chains
+pub mod UpRun
+pub mod DownRun
+pub mod RowRun

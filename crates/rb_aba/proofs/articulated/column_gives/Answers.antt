@@ -1,0 +1,24 @@
+use Rattle.std.proofs.lemmas.Result.{err_from_is_err_and}
+use Rattle.rb_aba.proofs.Named.{named_was, pivot_was, column_found, column_refused}
+use Rattle.rb_aba.proofs.articulated.column_gives.Goals as goal
+
+pub returns-in_err-next-clause-step : goal.returns-in_err-next-clause-step
+returns-in_err-next-clause-step c =
+    let p = err_from_is_err_and c.from_residual-in_err-next.result c.from_residual-in_err-next.ensures.1 in
+    rw (p.1, p.2)
+    (column_refused c.args.c c.args.axis.now c.args.torque c.args.work.now c.args.rest.now c.in_ok-force.force c.in_ok-along.along c.in_ok-divisor.divisor c.in_ok-left.left
+    (named_was _ _ _ _ _ _ c.one.ensures c.times.ensures.exact c.named.ensures c.in_ok-force.was)
+    (named_was _ _ _ _ _ _ c.one-2.ensures c.power.ensures.exact c.named-2.ensures c.in_ok-along.was)
+    (pivot_was _ _ c.in_ok-along.along _ _ c.one-3.ensures c.pivot.ensures c.in_ok-divisor.was)
+    (named_was _ _ _ _ _ _ c.one-4.ensures c.less_power.ensures.exact c.named-3.ensures c.in_ok-left.was)
+    _ (named_was _ _ _ _ _ _ c.one-5.ensures c.give_way.ensures.exact c.named-4.ensures c.in_err-next.was))
+
+pub returns-clause-step : goal.returns-clause-step
+returns-clause-step c =
+    column_found c.args.c c.args.axis.now c.args.torque c.args.work.now c.args.rest.now c.in_ok-force.force c.in_ok-along.along c.in_ok-divisor.divisor c.in_ok-left.left
+    (named_was _ _ _ _ _ _ c.one.ensures c.times.ensures.exact c.named.ensures c.in_ok-force.was)
+    (named_was _ _ _ _ _ _ c.one-2.ensures c.power.ensures.exact c.named-2.ensures c.in_ok-along.was)
+    (pivot_was _ _ c.in_ok-along.along _ _ c.one-3.ensures c.pivot.ensures c.in_ok-divisor.was)
+    (named_was _ _ _ _ _ _ c.one-4.ensures c.less_power.ensures.exact c.named-3.ensures c.in_ok-left.was)
+    _ _ _ _ (named_was _ _ _ _ _ _ c.one-5.ensures c.give_way.ensures.exact c.named-4.ensures c.in_ok-next.was)
+    c.set_U.ensures c.set_D.ensures c.set_u.ensures
