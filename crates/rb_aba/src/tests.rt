@@ -127,8 +127,14 @@ fn a_stack(rt: HostRuntime) -> Result<(), Fail> {
         Given::Torque(0, 3_000_000_000_000),
         Given::Torque(1, 1_000_000_000_000),
     ];
-    assert_eq!(rt; acceleration(alloc, STACK, &pushed, 1)?, Ok(exactly(2_000_000_000_000)));
-    assert_eq!(rt; acceleration(alloc, STACK, &pushed, 2)?, Ok(exactly(-1_000_000_000_000)));
+    assert_eq!(rt;
+        acceleration(alloc, STACK, &pushed, 1)?,
+        Ok(exactly(2_000_000_000_000))
+    );
+    assert_eq!(rt;
+        acceleration(alloc, STACK, &pushed, 2)?,
+        Ok(exactly(-1_000_000_000_000))
+    );
     Ok(())
 }
 
