@@ -21,6 +21,7 @@ abbrev pub IsBuilt : Task → Type 0
 IsBuilt For.Rnea = Unit {0}
 IsBuilt For.Crba = Unit {0}
 IsBuilt For.Fd = Unit {0}
+IsBuilt For.Aba = Unit {0}
 IsBuilt task = ⊥
 
 -- ---- lines

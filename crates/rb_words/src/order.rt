@@ -38,6 +38,7 @@ pub(crate) fn read_order(word: &str) -> Result<Order, WordsFault>
         "rnea" => Ok(Order::Rows(Task::Rnea)),
         "crba" => Ok(Order::Rows(Task::Crba)),
         "fd" => Ok(Order::Rows(Task::Fd)),
+        "aba" => Ok(Order::Rows(Task::Aba)),
         "model" => Ok(Order::Model),
         "columns" => Ok(Order::Columns),
         _ => Err(WordsFault::Task),

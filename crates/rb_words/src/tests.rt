@@ -106,7 +106,7 @@ const FAULTS: [(&[&str], WordsFault); 22] = [
     (&["--task", "rnea", "--urdf", "a", "-h"], WordsFault::Words),
     (&["--help"], WordsFault::Words),
     (&["--task=", "--urdf", "a"], WordsFault::Task),
-    (&["--task", "aba", "--urdf", "a"], WordsFault::Task),
+    (&["--task", "contact", "--urdf", "a"], WordsFault::Task),
     (
         &["--task", "RNEA", "--urdf", "a", "--root", "ball"],
         WordsFault::Task,
