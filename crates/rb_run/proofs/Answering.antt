@@ -11,11 +11,12 @@ use Rattle.rb_rnea.specs.Dynamics.{EnclosesDynamics, torques_in}
 use Rattle.rb_mass.specs.Mass.{answer_of, table_in}
 use Rattle.rb_mass.specs.Encloses.{EnclosesRowMass}
 use Rattle.rb_contact.specs.Forward.{EnclosesForward, accelerations_in}
+use Rattle.rb_aba.specs.Forward as Articulated
 use Rattle.rb_rows.specs.declared.task.Task.{Task}
 use Rattle.rb_rows.specs.declared.task.Task.TheVariants as task
 use Rattle.rb_run.specs.Answers.{answer_for, values_in, upper_of, masses_in}
 use Rattle.rb_run.specs.Meaning.{Encloses}
-use Rattle.rb_run.proofs.Enclosing.{torques_enclose, accelerations_enclose, masses_enclose}
+use Rattle.rb_run.proofs.Enclosing.{torques_enclose, accelerations_enclose, articulated_enclose, masses_enclose}
 use Rattle.rb_run.proofs.Upper.{upper_is, answers_then}
 
 on_ok : {A : Type 0} (r : Result A RowFault) (P Q : Type 0) → (P → Q) → OnOk r P → OnOk r Q
@@ -30,6 +31,11 @@ module _ (asked : Task) where
   pub accelerations_found : asked ≡ task.Fd → {A : Type 0} (r : Result A RowFault) (tree : Tree) (row : Row) (w : View) → OnOk r (EnclosesForward tree row w) → OnOk r (Encloses asked tree row (values_in asked tree w))
   accelerations_found is r tree row w lie =
       subst (λ t. OnOk r (Encloses t tree row (values_in t tree w))) (sym is) (on_ok r (EnclosesForward tree row w) (Encloses task.Fd tree row (accelerations_in tree w)) (accelerations_enclose tree row w) lie)
+
+  pub articulated_found : asked ≡ task.Aba → {A : Type 0} (r : Result A RowFault) (tree : Tree) (row : Row) (w : View) → OnOk r (Articulated.EnclosesForward tree row w) → OnOk r (Encloses asked tree row (values_in asked tree w))
+  articulated_found is r tree row w lie =
+      subst (λ t. OnOk r (Encloses t tree row (values_in t tree w))) (sym is)
+      (on_ok r (Articulated.EnclosesForward tree row w) (Encloses task.Aba tree row (Articulated.accelerations_in tree w)) (articulated_enclose tree row w) lie)
 
   pub masses_found : asked ≡ task.Crba → {A : Type 0} (r : Result A RowFault) (tree : Tree) → AreBodies tree.bodies → (row : Row) (w : View) → OnOk r (EnclosesRowMass tree row w) → OnOk r (Encloses asked tree row (values_in asked tree w))
   masses_found is r tree kept row w lie =

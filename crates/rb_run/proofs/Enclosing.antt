@@ -23,6 +23,7 @@ use Rattle.rb_tree.proofs.ColumnsFit.{columns_fit, parents_first}
 use Rattle.rb_rnea.specs.Dynamics.{EnclosesDynamics, torques_in}
 use Rattle.rb_mass.specs.Encloses.{MassLies, EnclosesRowMass}
 use Rattle.rb_contact.specs.Forward.{EnclosesForward, accelerations_in}
+use Rattle.rb_aba.specs.Forward as Articulated
 use Rattle.rb_rows.specs.Head.{pairs_of}
 use Rattle.rb_rows.specs.declared.task.Task.TheVariants as task
 use Rattle.rb_run.specs.Answers.{mass_of_pair, masses_in}
@@ -64,6 +65,14 @@ accelerations_enclose tree row w encloses = record {
   each = λ choice chosen.
       let lie = encloses.at choice chosen in
       record { one = lie.one; within = columns_lie (x_at w) (column_count tree.bodies) lie.one.solution.joint_acceleration (λ c from to. lie.lies c (record { from = from; to = to })) };
+}
+
+pub articulated_enclose : (tree : Tree) (row : Row) (w : View) → Articulated.EnclosesForward tree row w → Encloses task.Aba tree row (Articulated.accelerations_in tree w)
+articulated_enclose tree row w encloses = record {
+  count = columns_long (x_at w) (column_count tree.bodies);
+  each = λ choice chosen.
+      let lie = encloses.at choice chosen in
+      record { one = lie.one; within = columns_lie (x_at w) (column_count tree.bodies) lie.one.solution.joint_acceleration (λ c from to. lie.lies.joint_acceleration c (record { from = from; to = to })) };
 }
 
 -- ---- the mass table

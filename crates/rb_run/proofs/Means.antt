@@ -12,12 +12,13 @@ use Rattle.rb_rnea.specs.Dynamics as Inverse
 use Rattle.rb_mass.specs.Mass as Mass
 use Rattle.rb_mass.specs.Encloses.{EnclosesRowMass}
 use Rattle.rb_contact.specs.Forward as Forward
-use Rattle.rb_rows.specs.Head.{IsBuilt}
+use Rattle.rb_aba.specs.Forward as Articulated
 use Rattle.rb_rows.specs.declared.task.Task.{Task}
 use Rattle.rb_rows.specs.declared.task.Task.TheVariants as task
 use Rattle.rb_run.specs.Answers.{AnswerMeans, upper_of}
+use Rattle.rb_run.specs.Jobs.{Suits}
 use Rattle.rb_run.specs.Meaning.{Encloses}
-use Rattle.rb_run.proofs.Enclosing.{torques_enclose, accelerations_enclose, masses_enclose}
+use Rattle.rb_run.proofs.Enclosing.{torques_enclose, accelerations_enclose, articulated_enclose, masses_enclose}
 use Rattle.rb_run.proofs.Upper.{upper_is}
 
 -- a step that is never refused leaves refusals as they are
@@ -63,11 +64,29 @@ module _ (tree : Tree) (row : Row) (kept : AreBodies tree.bodies) where
     refused = means.refused;
   }
 
-  pub answer_means : Inverse.AnswerMeans tree row → Inverse.AnswerEncloses tree row → Mass.AnswerMeans tree row → MassesLie
-      → Forward.ForwardMeans tree row → Forward.ForwardEncloses tree row → (asked : Task) → IsBuilt asked → AnswerMeans asked tree row
-  answer_means torques torques_lie masses masses_lie accelerations accelerations_lie task.Rnea built = torques_mean torques torques_lie
-  answer_means torques torques_lie masses masses_lie accelerations accelerations_lie task.Crba built = masses_mean masses masses_lie
-  answer_means torques torques_lie masses masses_lie accelerations accelerations_lie task.Fd built = accelerations_mean accelerations accelerations_lie
-  answer_means torques torques_lie masses masses_lie accelerations accelerations_lie task.Aba built = absurd built
-  answer_means torques torques_lie masses masses_lie accelerations accelerations_lie task.Contact built = absurd built
-  answer_means torques torques_lie masses masses_lie accelerations accelerations_lie task.Impulse built = absurd built
+  articulated_mean : Articulated.AnswerMeans tree row → Articulated.AnswerEncloses tree row → AnswerMeans task.Aba tree row
+  articulated_mean means encloses = record {
+    values = λ values is.
+        let found = (means.values values).0 is in
+        subst (Encloses task.Aba tree row) found.2 (articulated_enclose tree row found.0 (encloses.values found.0 found.1));
+    refused = means.refused;
+  }
+
+  -- what is known of each algorithm; of articulated bodies where no joint follows another
+  pub record EachMeans : Type 0 where
+    pub torques : Inverse.AnswerMeans tree row
+    pub torques_lie : Inverse.AnswerEncloses tree row
+    pub masses : Mass.AnswerMeans tree row
+    pub masses_lie : MassesLie
+    pub accelerations : Forward.ForwardMeans tree row
+    pub accelerations_lie : Forward.ForwardEncloses tree row
+    pub articulated : Articulated.AllLead tree → Articulated.AnswerMeans tree row
+    pub articulated_lie : Articulated.AllLead tree → Articulated.AnswerEncloses tree row
+
+  pub answer_means : EachMeans → (asked : Task) → Suits asked tree → AnswerMeans asked tree row
+  answer_means each task.Rnea suits = torques_mean each.torques each.torques_lie
+  answer_means each task.Crba suits = masses_mean each.masses each.masses_lie
+  answer_means each task.Fd suits = accelerations_mean each.accelerations each.accelerations_lie
+  answer_means each task.Aba suits = let lead = suits.leads refl in articulated_mean (each.articulated lead) (each.articulated_lie lead)
+  answer_means each task.Contact suits = absurd suits.built
+  answer_means each task.Impulse suits = absurd suits.built

@@ -10,6 +10,7 @@ use Rattle.rb_work.specs.View.{View, mass_at}
 use Rattle.rb_rnea.specs.Dynamics as Inverse
 use Rattle.rb_mass.specs.Mass as Mass
 use Rattle.rb_contact.specs.Forward as Forward
+use Rattle.rb_aba.specs.Forward as Articulated
 use Rattle.rb_rows.specs.declared.faults.FieldFault.{FieldFault}
 use Rattle.rb_rows.specs.declared.task.Task.{Task}
 use Rattle.rb_rows.specs.declared.task.Task.TheVariants as task
@@ -37,6 +38,7 @@ abbrev pub answer_for : Task → Tree → Row → Result (List Interval) RowFaul
 answer_for task.Rnea tree row = Inverse.answer_of tree row
 answer_for task.Crba tree row = Mass.answer_of tree row >>= λ table. Ok (upper_of (column_count tree.bodies) table)
 answer_for task.Fd tree row = Forward.forward_of tree row
+answer_for task.Aba tree row = Articulated.answer_of tree row
 answer_for unbuilt tree row = Ok []
 
 -- what a work holds for a pair of columns, and for all of them
@@ -51,6 +53,7 @@ abbrev pub values_in : Task → Tree → View → List Interval
 values_in task.Rnea tree w = Inverse.torques_in tree w
 values_in task.Crba tree w = masses_in tree w
 values_in task.Fd tree w = Forward.accelerations_in tree w
+values_in task.Aba tree w = Articulated.accelerations_in tree w
 values_in unbuilt tree w = []
 
 -- what the one answer means: values that enclose, or a refusal

@@ -15,6 +15,7 @@ use Rattle.rb_work.specs.declared.names.RowFault.{RowFault}
 use Rattle.rb_rnea.specs.Dynamics as Inverse
 use Rattle.rb_mass.specs.Mass as Mass
 use Rattle.rb_contact.specs.Forward as Forward
+use Rattle.rb_aba.specs.Forward as Articulated
 use Rattle.rb_rows.specs.declared.task.Task.{Task}
 use Rattle.rb_rows.specs.declared.task.Task.TheVariants as task
 use Rattle.rb_rows.specs.Head.{pairs_of}
@@ -45,6 +46,7 @@ abbrev pub HasOneWithin : Task → Tree → Choice → List Interval → Type 0
 HasOneWithin task.Rnea tree choice values = HasTorquesWithin tree choice values
 HasOneWithin task.Crba tree choice values = (d : ℕ) → HasColumn tree d → HasMassesWithin tree choice values d
 HasOneWithin task.Fd tree choice values = HasAccelerationsWithin tree choice values
+HasOneWithin task.Aba tree choice values = HasAccelerationsWithin tree choice values
 HasOneWithin unbuilt tree choice values = ⊥
 
 -- so it is for each choice within the brackets of the robot and the row, and there are as many values as the task has
@@ -58,4 +60,5 @@ abbrev pub IsRefusedFor : Task → Tree → Row → RowFault → Type 0
 IsRefusedFor task.Rnea tree row fault = Inverse.IsRefused tree row fault
 IsRefusedFor task.Crba tree row fault = Mass.IsRefused tree row fault
 IsRefusedFor task.Fd tree row fault = Forward.IsForwardRefused tree row fault
+IsRefusedFor task.Aba tree row fault = Articulated.IsRefused tree row fault
 IsRefusedFor unbuilt tree row fault = ⊥

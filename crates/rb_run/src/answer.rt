@@ -2,14 +2,15 @@ ghost use Rattle.std.specs.Prelude.{◌≡◌, length, OnOk, IfErr};
 ghost use Rattle.rb_sweep.specs.Sweep.{Answers};
 ghost use Rattle.rb_tree.specs.Places.{IsFor};
 ghost use Rattle.rb_tree.specs.State.{Fits};
-ghost use Rattle.rb_rows.specs.Head.{IsBuilt};
 ghost use Rattle.rb_run.specs.Answers.{IsAnsweredBy, answer_for, values_in};
+ghost use Rattle.rb_run.specs.Jobs.{IsJob};
 ghost use Rattle.rb_run.specs.Meaning.{Encloses, IsRefusedFor};
 ghost use Rattle.rb_run.specs.Slots.{value_count, IsSlotOf};
 
 use crate::job::Job;
 use crate::slot::{Answer, Slot, SlotInput};
 use crate::values::Values;
+use rb_aba::aba;
 use rb_contact::forward;
 use rb_mass::crba;
 use rb_rnea::rnea;
@@ -19,7 +20,7 @@ use rb_work::{RowFault, Work};
 
 /// Finds the values of a row: a work then holds them.
 fn find(job: &Job, state: &State, work: &mut Work) -> Result<(), RowFault>
-    requires task { IsBuilt job.now.task }
+    requires task { IsJob job.now }
     requires state { Fits job.now.robot state.now }
     requires work { IsFor job.now.robot work.old }
     ensures exact { Answers result (answer_for job.now.task job.now.robot state.now) (values_in job.now.task job.now.robot work.new) }
@@ -32,7 +33,8 @@ fn find(job: &Job, state: &State, work: &mut Work) -> Result<(), RowFault>
         Task::Rnea => rnea(&job.robot, state, work),
         Task::Crba => crba(&job.robot, state, work),
         Task::Fd => forward(&job.robot, state, work),
-        Task::Aba | Task::Contact | Task::Impulse => Ok(()),
+        Task::Aba => aba(&job.robot, state, work),
+        Task::Contact | Task::Impulse => Ok(()),
     }
 }
 
@@ -45,7 +47,7 @@ pub fn answer_row(
     work: &mut Work,
     values: &mut Values,
 ) -> Result<(), RowFault>
-    requires task { IsBuilt job.now.task }
+    requires task { IsJob job.now }
     requires state { Fits job.now.robot state.now }
     requires work { IsFor job.now.robot work.old }
     requires length { length values.old ≡ value_count job.now.robot job.now.task }
@@ -74,7 +76,7 @@ pub fn answer_row(
 ///
 /// A slot without a row has no answer, and a row of which a field is wrong tells which. The row's number, what it told and its state stay.
 pub fn answer_slot(job: &Job, slot: &mut Slot, work: &mut Work)
-    requires task { IsBuilt job.now.task }
+    requires task { IsJob job.now }
     requires slot { IsSlotOf job.now slot.old }
     requires work { IsFor job.now.robot work.old }
     ensures exact { IsAnsweredBy job.now slot.old.input slot.old slot.new }

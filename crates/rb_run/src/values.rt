@@ -5,8 +5,9 @@ ghost use Rattle.rb_tree.specs.Places.{IsFor};
 ghost use Rattle.rb_work.specs.View.{columns_of};
 ghost use Rattle.rb_rnea.specs.Dynamics.{torques_in};
 ghost use Rattle.rb_contact.specs.Forward.{accelerations_in};
-ghost use Rattle.rb_rows.specs.Head.{IsBuilt, pairs_at};
+ghost use Rattle.rb_rows.specs.Head.{pairs_at};
 ghost use Rattle.rb_run.specs.Answers.{mass_of_pair, masses_in, values_in};
+ghost use Rattle.rb_run.specs.Jobs.{IsJob};
 ghost use Rattle.rb_run.specs.Slots.{value_count};
 
 use crate::job::Job;
@@ -92,7 +93,7 @@ fn put_masses(robot: &Robot, work: &Work, masses: &mut [Iv])
 
 /// Puts what a work holds for the values of a row.
 fn put_values(job: &Job, work: &Work, values: &mut [Iv])
-    requires task { IsBuilt job.now.task }
+    requires task { IsJob job.now }
     requires work { IsFor job.now.robot work.now }
     requires length { length values.old ≡ value_count job.now.robot job.now.task }
     ensures values { values.new ≡ values_in job.now.task job.now.robot work.now }
@@ -101,8 +102,8 @@ fn put_values(job: &Job, work: &Work, values: &mut [Iv])
     match job.task {
         Task::Rnea => put_torques(&job.robot, work, values),
         Task::Crba => put_masses(&job.robot, work, values),
-        Task::Fd => put_accelerations(&job.robot, work, values),
-        Task::Aba | Task::Contact | Task::Impulse => {}
+        Task::Fd | Task::Aba => put_accelerations(&job.robot, work, values),
+        Task::Contact | Task::Impulse => {}
     }
 }
 
@@ -141,7 +142,7 @@ impl Values {
 
     /// Takes what a work holds for them.
     pub(crate) fn take(&mut self, job: &Job, work: &Work)
-        requires task { IsBuilt job.now.task }
+        requires task { IsJob job.now }
         requires work { IsFor job.now.robot work.now }
         requires length { length self.old ≡ value_count job.now.robot job.now.task }
         ensures values { self.new ≡ values_in job.now.task job.now.robot work.now }

@@ -1,5 +1,5 @@
 use Rattle.std.proofs.Common.{◌≡◌, OnOk}
-use Rattle.rb_run.proofs.Answering.{torques_found, masses_found, masses_answer, accelerations_found}
+use Rattle.rb_run.proofs.Answering.{torques_found, masses_found, masses_answer, accelerations_found, articulated_found}
 use Rattle.rb_run.proofs.answer.find.Goals as goal
 
 pub returns-in-Rnea-clause-headline : goal.returns-in-Rnea-clause-headline
@@ -13,3 +13,9 @@ returns-in-Crba-clause-headline c = masses_found _ c.in-Crba.is _ _ c.bodies-tre
 
 pub returns-in-Fd-clause-headline : goal.returns-in-Fd-clause-headline
 returns-in-Fd-clause-headline c = accelerations_found _ c.in-Fd.is _ _ _ _ c.forward.ensures.encloses
+
+pub aba-requires-clause-lead : goal.aba-requires-clause-lead
+aba-requires-clause-lead c = c.requires.task.leads c.in-Aba.is
+
+pub returns-in-Aba-clause-headline : goal.returns-in-Aba-clause-headline
+returns-in-Aba-clause-headline c = articulated_found _ c.in-Aba.is _ _ _ _ c.aba.ensures.encloses

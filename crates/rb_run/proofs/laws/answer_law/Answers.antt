@@ -3,7 +3,17 @@ use Rattle.rb_run.proofs.laws.answer_law.Goals as goal
 
 pub returns : goal.returns
 returns c = record {
-  means = λ asked tree row built kept.
-      answer_means tree row kept (c.answer_law.ensures.means tree row kept) (c.answer_law.ensures.encloses tree row kept) (c.answer_law-2.ensures.means tree row kept)
-      (λ w are. c.table_law.ensures.answer tree row w kept are) (c.answer_law-3.ensures.means tree row kept) (c.answer_law-3.ensures.encloses tree row kept) asked built;
+  means = λ asked tree row suits kept.
+      answer_means tree row kept
+      (record {
+        torques = c.answer_law.ensures.means tree row kept;
+        torques_lie = c.answer_law.ensures.encloses tree row kept;
+        masses = c.answer_law-2.ensures.means tree row kept;
+        masses_lie = λ w are. c.table_law.ensures.answer tree row w kept are;
+        accelerations = c.answer_law-3.ensures.means tree row kept;
+        accelerations_lie = c.answer_law-3.ensures.encloses tree row kept;
+        articulated = λ lead. c.answer_law-4.ensures.means tree row kept lead;
+        articulated_lie = λ lead. c.answer_law-4.ensures.encloses tree row kept lead;
+      })
+      asked suits;
 }
