@@ -2,6 +2,7 @@
 ghost use Rattle.std.specs.Prelude.{◌≡◌, ◌≤◌, IfOk, IfSome, length};
 ghost use Rattle.rb_tree.specs.Places.{IsFor};
 ghost use Rattle.rb_tree.specs.State.{Fits};
+ghost use Rattle.rb_run.specs.Jobs.{IsJob};
 ghost use Rattle.rb_run.specs.Slots.{IsSlotOf};
 ghost use Rattle.rb_run.specs.declared.slot.Answer.TheVariants.{Idle};
 ghost use Rattle.rb_rows.specs.Head.{IsBuilt};
@@ -33,13 +34,17 @@ const STACK: &str =
 const LEAF: &str =
     "<robot name='leaf'><link name='base'/><link name='tip'/><joint name='hinge' type='revolute'><parent link='base'/><child link='tip'/><axis xyz='0 1 0'/></joint></robot>";
 
-// This task for the robot of a file; nothing if the file holds none.
+// This task for the robot of a file, of which no joint follows another; nothing if the file holds none.
 fn job_of(alloc: Global, text: &str, task: Task, echo: bool) -> Option<Job>
-    ensures { IfSome result (λ job. job.task ≡ task) }
+    requires { IsBuilt task }
+    ensures { IfSome result IsJob }
 {
     let tags = read_tags(alloc, text.as_bytes()).ok()?;
     let urdf = read_urdf(alloc, &tags).ok()?;
     let robot = Robot::build(alloc, &urdf, None, None).ok()?;
+    if robot.has_mimic() {
+        return None;
+    }
     Some(Job { robot, task, echo })
 }
 
@@ -80,7 +85,7 @@ fn slot_of(alloc: Global, job: &Job, row: u64, up: Iv) -> Result<Slot, AllocErro
 
 // The line of the row of this number in which the first column has this acceleration.
 fn lifted(alloc: Global, job: &Job, row: u64, up: Iv) -> Result<Out, AllocError>
-    requires { IsBuilt job.now.task }
+    requires { IsJob job.now }
 {
     let mut slot = slot_of(alloc, job, row, up)?;
     slot.input = SlotInput::Row;
@@ -129,7 +134,7 @@ fn drive(robot: &Robot, state: &mut State, k: usize, acceleration: Iv, torque: I
 
 // The line of row 1, with 2 and -1 as the first accelerations, and 3 and 1 as the first torques.
 fn driven(alloc: Global, job: &Job) -> Result<Out, AllocError>
-    requires { IsBuilt job.now.task }
+    requires { IsJob job.now }
 {
     let mut slot = Slot::new(alloc, job)?;
     slot.row = 1;
@@ -164,6 +169,11 @@ fn each_task_has_its_values(rt: HostRuntime) -> Result<(), Fail> {
     let accelerations = job_of(alloc, STACK, Task::Fd, false).ok_or("the robot is built")?;
     assert_eq!(rt;
         driven(alloc, &accelerations)?.bytes(),
+        b"1,ok,,2.000000000000..2.000000000000,-1.000000000000..-1.000000000000\n".as_slice()
+    );
+    let articulated = job_of(alloc, STACK, Task::Aba, false).ok_or("the robot is built")?;
+    assert_eq!(rt;
+        driven(alloc, &articulated)?.bytes(),
         b"1,ok,,2.000000000000..2.000000000000,-1.000000000000..-1.000000000000\n".as_slice()
     );
     Ok(())
