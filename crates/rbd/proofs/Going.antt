@@ -4,10 +4,11 @@ use Rattle.std.proofs.lemmas.Bool.Decides.{nat_tests}
 use Rattle.rb_io.specs.Outside.{Rose}
 use Rattle.rb_result.specs.Steps.{told_as}
 use Rattle.rb_tree.specs.declared.faults.WhichFile.{WhichFile}
+use Rattle.rb_tree.specs.Columns.{has_mimic}
 use Rattle.rb_tree.specs.Robot.{Tree}
 use Rattle.rb_tree.specs.State.{Row}
 use Rattle.rb_tree.specs.States.{HasState}
-use Rattle.rbd.specs.declared.stop.UsageFault.TheVariants.{Words, State}
+use Rattle.rbd.specs.declared.stop.UsageFault.TheVariants.{Words, State, Mimic}
 use Rattle.rb_words.specs.declared.faults.WordsFault.{WordsFault}
 use Rattle.rb_words.specs.declared.faults.WordsStop.{WordsStop}
 use Rattle.rb_words.specs.declared.faults.WordsStop.TheVariants as of_words
@@ -28,7 +29,7 @@ use Rattle.rbd.specs.declared.stop.Stop.{Stop}
 use Rattle.rbd.specs.declared.stop.Stop.TheVariants.{Usage, Robot, Rows, Input, Output, Memory}
 use Rattle.rbd.specs.declared.status.Status.{Status}
 use Rattle.rbd.specs.declared.status.Status.TheVariants as status
-use Rattle.rbd.specs.Plan.{Plan, plan, plan_of, files_of, IsRobotOf, IsRefused, IsStart, most_file}
+use Rattle.rbd.specs.Plan.{Plan, plan, plan_of, articulated, Leads, files_of, IsRobotOf, IsRefused, IsStart, most_file}
 use Rattle.rbd.specs.Inputs.{most_rows, rows_of, rows_of_lines}
 use Rattle.rb_io.specs.Cut.{lines_of}
 use Rattle.rbd.specs.Course.{IsCourse, stopped, course_of, course_of_rows}
@@ -144,6 +145,29 @@ goes_start words command tree inputs out stop told robot_is (inr (is, unknown)) 
       });
     }
 
+-- for a joint that follows another, where articulated bodies are asked for
+pub record IsUnfit (command : Asked) (tree : Tree) (from : Row) : Type 0 where
+  pub starts : IsStart tree command.gravity command.state from
+  pub order : command.order ≡ articulated
+  pub mimic : has_mimic tree.bodies ≡ true
+
+pub goes_mimic : (words : List (List ℕ)) (command : Asked) (tree : Tree) (from : Row) (inputs : Source) (out : Stream) → command_of words ≡ Ok command
+    → (IsTrue inputs.tells → IsRobotOf command.root (files_of command inputs.holds) tree) → IsUnfit command tree from → inputs.after ≡ inputs.before → Untouched out
+    → Goes words inputs out (Err (Usage Mimic))
+goes_mimic words command tree from inputs out told robot_is unfit same kept = record {
+  usage = λ fault e. let of_mimic : Mimic ≡ fault = cc in subst (IsUsage words) of_mimic (record { command = command; told = told; order = unfit.order });
+  usage_always = λ fault e. absurd (cc (told, e));
+  long_file = λ file e. absurd cc;
+  long_rows = λ e. absurd cc;
+  input = record { rose = λ e. absurd cc; kept = λ e. same };
+  output = record { rose = λ e. absurd cc; kept = λ e. kept.count };
+  course = λ tells. inr (record {
+    course = stopped (Usage Mimic);
+    is = IsCourse.stops (Usage Mimic) (record { command = command; told = told; tree = tree; robot = robot_is tells; start = from; starts = unfit.starts; order = unfit.order; mimic = unfit.mimic });
+    follows = follows_stop (Usage Mimic) out kept.bytes;
+  });
+}
+
 -- ---- what is asked of the robot
 -- for the bytes of the rows
 pub obeys_reading : (job : Job) (from : Row) (name : List ℕ) (inputs : Source) (out : Stream) (stop : ReadStop RowsFault) → IfFault (λ fault. fault ≡ rows.TooLong) stop
@@ -214,13 +238,13 @@ rows_along job from name bytes inputs out answer bytes_are short follows tells =
 
 -- ---- behind what is asked
 module _ (words : List (List ℕ)) (command : Asked) (tree : Tree) (from : Row) (inputs inner : Source) (out : Stream) (told : command_of words ≡ Ok command)
-    (robot_is : IsTrue inputs.tells → IsRobotOf command.root (files_of command inputs.holds) tree) (starts : IsStart tree command.gravity command.state from)
+    (robot_is : IsTrue inputs.tells → IsRobotOf command.root (files_of command inputs.holds) tree) (starts : IsStart tree command.gravity command.state from) (leads : Leads command.order tree)
     (tells_same : inner.tells ≡ inputs.tells) (holds_same : inner.holds ≡ inputs.holds) (given_same : inner.given ≡ inputs.given) (before_same : inner.before ≡ inputs.before) (after_same : inner.after ≡ inputs.after) where
   has_course : (answer : Result Bool Stop) → IsTrue inputs.tells → EndsEarly out answer ⊎ Follows (course_of (plan_of command tree from) inner.holds) out answer → EndsEarly out answer ⊎ HasCourse words inputs.holds out answer
   has_course answer tells (inl ends) = inl ends
   has_course answer tells (inr follows) = inr (record {
     course = course_of (plan_of command tree from) inputs.holds;
-    is = IsCourse.goes (plan_of command tree from) (record { command = command; told = told; robot = robot_is tells; start = starts; asked = refl });
+    is = IsCourse.goes (plan_of command tree from) (record { command = command; told = told; robot = robot_is tells; start = starts; asked = refl; leads = leads });
     follows = subst (λ (holds : List ℕ → List ℕ). Follows (course_of (plan_of command tree from) holds) out answer) holds_same follows;
   })
 

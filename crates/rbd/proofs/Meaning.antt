@@ -10,12 +10,13 @@ use Rattle.rb_tree.specs.State.{Row}
 use Rattle.rb_work.specs.declared.names.RowFault.{RowFault}
 use Rattle.rb_model.specs.Model.{model_text}
 use Rattle.rb_rows.specs.Columns.{state_columns}
-use Rattle.rb_rows.specs.Head.{IsBuilt as IsBuiltTask, line_of as names_text}
+use Rattle.rb_rows.specs.Head.{line_of as names_text}
 use Rattle.rb_rows.specs.declared.task.Task.{Task}
 use Rattle.rb_rows.specs.Row.{row_of}
 use Rattle.rb_run.specs.declared.job.Job.{Job}
 use Rattle.rb_run.specs.declared.slot.Slot.{Slot}
 use Rattle.rb_run.specs.Answers.{AnswerMeans, Told, answer_for, slot_of, slots_from, is_refused}
+use Rattle.rb_run.specs.Jobs.{Suits, IsJob}
 use Rattle.rb_run.specs.Line.{line_of}
 use Rattle.rb_words.specs.Words.{IsBuilt}
 use Rattle.rb_words.proofs.Orders.{commands_are_built}
@@ -31,16 +32,16 @@ use Rattle.rbd.specs.Course.{Course, IsCourse, tells, ending, slots_of, lines_of
 use Rattle.rbd.specs.Ends.{status_of, status_of_stop}
 use Rattle.rbd.specs.Headline.{IsAnswered, IsRefusal, Means, AreAnswered, IsPut, IsWritten, IsProved, Headline}
 use Rattle.rbd.specs.Inputs.{Rows, rows_of, inputs_of, long_line, is_long, is_short}
-use Rattle.rbd.specs.Plan.{Plan, IsPlan, job_of}
+use Rattle.rbd.specs.Plan.{Plan, IsPlan, Leads, job_of}
 use Rattle.rbd.specs.Run.{Source, Stream, Follows, EndsEarly, HasCourse, Goes}
 
 -- ---- one line
 -- what is known of each task
 abbrev EachMeans : Type 0
-EachMeans = (asked : Task) (tree : Tree) (row : Row) → IsBuiltTask asked → AreBodies tree.bodies → AnswerMeans asked tree row
+EachMeans = (asked : Task) (tree : Tree) (row : Row) → Suits asked tree → AreBodies tree.bodies → AnswerMeans asked tree row
 
 module _ (means : EachMeans) where
-  line_means : (job : Job) → IsBuiltTask job.task → AreBodies job.robot.bodies → (number : ℕ) (told : Told) (line : List ℕ) → line ≡ line_of job.echo (slot_of job number told) → Means job number told line
+  line_means : (job : Job) → IsJob job → AreBodies job.robot.bodies → (number : ℕ) (told : Told) (line : List ℕ) → line ≡ line_of job.echo (slot_of job number told) → Means job number told line
   line_means job built kept number (Err fault) line is = is
   line_means job built kept number (Ok row) line is = by_answer (answer_for job.task job.robot row) refl
     where
@@ -101,7 +102,7 @@ plan_built words held plan planned = subst IsBuilt (ap (λ (p : Plan). p.order) 
 
 module _ (means : EachMeans)
     (words : List (List ℕ)) (inputs : Source) (out : Stream) (ended : Status) (refused : Bool) (is : ended ≡ status_of (Ok refused)) (told : IsTrue out.tells) where
-  rows_proved : (job : Job) (asked : Plan) → IsBuiltTask job.task → AreBodies job.robot.bodies → asked.tree ≡ job.robot → (read : Result Rows RowsFault) → rows_of asked.tree (inputs.holds asked.rows) ≡ read → Follows (course_of_rows job asked.start read) out (Ok refused)
+  rows_proved : (job : Job) (asked : Plan) → IsJob job → AreBodies job.robot.bodies → asked.tree ≡ job.robot → (read : Result Rows RowsFault) → rows_of asked.tree (inputs.holds asked.rows) ≡ read → Follows (course_of_rows job asked.start read) out (Ok refused)
       → AreAnswered asked job inputs out ended
   rows_proved job asked built kept same (Err fault) read follows = let e : Ok refused ≡ Err (AtRows fault) = follows.answers refl in absurd cc
   rows_proved job asked built kept same (Ok found) read follows =
@@ -127,14 +128,14 @@ module _ (means : EachMeans)
       let e : refused ≡ false = cc in
       record { put = follows.whole refl told; status = is ∙ ap (λ (b : Bool). status_of (Ok b)) e }
 
-  order_proved : (asked : Plan) → AreBodies asked.tree.bodies → (what : Order) → IsBuilt what → Follows (course_by what asked inputs.holds) out (Ok refused) → IsWritten what asked inputs out ended
-  order_proved asked kept (order.Rows task) built follows = rows_proved (job_of asked task) asked built kept refl (rows_of asked.tree (inputs.holds asked.rows)) refl follows
-  order_proved asked kept order.Model built follows = text_proved (model_text asked.tree asked.start.q) follows
-  order_proved asked kept order.Columns built follows = text_proved (names_text (state_columns asked.tree)) follows
+  order_proved : (asked : Plan) → AreBodies asked.tree.bodies → (what : Order) → IsBuilt what → Leads what asked.tree → Follows (course_by what asked inputs.holds) out (Ok refused) → IsWritten what asked inputs out ended
+  order_proved asked kept (order.Rows task) built leads follows = rows_proved (job_of asked task) asked (record { built = built; leads = λ is. leads (ap order.Rows is) }) kept refl (rows_of asked.tree (inputs.holds asked.rows)) refl follows
+  order_proved asked kept order.Model built leads follows = text_proved (model_text asked.tree asked.start.q) follows
+  order_proved asked kept order.Columns built leads follows = text_proved (names_text (state_columns asked.tree)) follows
 
   course_proved : (course : Course) → IsCourse words inputs.holds course → Follows course out (Ok refused) → IsProved words inputs out ended
   course_proved course (IsCourse.stops stop planless) follows = let e : Ok refused ≡ Err stop = follows.answers refl in absurd cc
-  course_proved course (IsCourse.goes plan planned) follows = record { plan = plan; is_plan = planned; written = order_proved plan planned.robot.kept plan.order (plan_built words inputs.holds plan planned) follows }
+  course_proved course (IsCourse.goes plan planned) follows = record { plan = plan; is_plan = planned; written = order_proved plan planned.robot.kept plan.order (plan_built words inputs.holds plan planned) planned.leads follows }
 
   never_early : ((Ok refused ≡ Err AtInput) ⊎ (Ok refused ≡ Err Memory)) → IsProved words inputs out ended
   never_early (inl is) = absurd cc

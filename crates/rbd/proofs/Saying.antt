@@ -17,6 +17,7 @@ rest_none (Err (Usage (usage.Words words_fault.Task))) none = none
 rest_none (Err (Usage (usage.Words words_fault.Root))) none = none
 rest_none (Err (Usage (usage.Words words_fault.Gravity))) none = none
 rest_none (Err (Usage usage.State)) none = none
+rest_none (Err (Usage usage.Mimic)) none = none
 rest_none (Err (Robot fault)) none = none
 rest_none (Err (Rows fault)) none = none
 rest_none (Err Input) none = none

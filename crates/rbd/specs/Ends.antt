@@ -38,6 +38,7 @@ status_of (Err stop) = status_of_stop stop
 abbrev pub usage_word : UsageFault → List ℕ
 usage_word (usage.Words fault) = words_word fault
 usage_word usage.State = codes "state"
+usage_word usage.Mimic = codes "mimic"
 
 -- what is wrong in a file of the robot
 unfoldable pub in_file : WhichFile → List ℕ → List ℕ

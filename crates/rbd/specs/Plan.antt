@@ -1,5 +1,5 @@
 -- What a run goes by, from its words and from what the names hold; or the first thing for which it has none.
-use Rattle.std.specs.Prelude.{◌≡◌, ◌⊎◌, ℕ, List, Bool, nat_lt, if◌then◌else◌, length, Option, Some, None, Result, Ok, Err}
+use Rattle.std.specs.Prelude.{◌≡◌, true, false, ◌⊎◌, ℕ, List, Bool, nat_lt, if◌then◌else◌, length, Option, Some, None, Result, Ok, Err}
 use Rattle.std.specs.Option.{option_map}
 use Rattle.rb_frac.specs.Ops.{V3}
 use Rattle.rb_num.specs.Interval.{Interval}
@@ -13,6 +13,7 @@ use Rattle.rb_srdf.specs.Srdf.{Semantics}
 use Rattle.rb_srdf.specs.Groups.{HoldsItself}
 use Rattle.rb_srdf.specs.Read.{semantics_of}
 use Rattle.rb_srdf.specs.Read as Srdf
+use Rattle.rb_tree.specs.Columns.{has_mimic}
 use Rattle.rb_tree.specs.Robot.{Tree, AreBodies}
 use Rattle.rb_tree.specs.State.{Row, neutral_under}
 use Rattle.rb_tree.specs.States.{HasState, IsPositionWith, entries_named}
@@ -21,13 +22,15 @@ use Rattle.rb_tree.specs.declared.faults.WhichFile.TheVariants as file
 use Rattle.rb_tree.specs.Build.{Source, IsBuilt}
 use Rattle.rb_tree.specs.Refusals.{HasFault}
 use Rattle.rb_rows.specs.declared.task.Task.{Task}
+use Rattle.rb_rows.specs.declared.task.Task.TheVariants as task
 use Rattle.rb_run.specs.declared.job.Job.{Job}
 use Rattle.rb_words.specs.declared.order.Order.{Order}
+use Rattle.rb_words.specs.declared.order.Order.TheVariants as order
 use Rattle.rb_words.specs.Words.{Asked, command_of}
 use Rattle.rbd.specs.declared.stop.RobotFault.{RobotFault}
 use Rattle.rbd.specs.declared.stop.RobotFault.TheVariants as why
 use Rattle.rbd.specs.declared.stop.UsageFault.{UsageFault}
-use Rattle.rbd.specs.declared.stop.UsageFault.TheVariants.{State, Words}
+use Rattle.rbd.specs.declared.stop.UsageFault.TheVariants.{State, Mimic, Words}
 use Rattle.rbd.specs.declared.stop.Stop.{Stop}
 use Rattle.rbd.specs.declared.stop.Stop.TheVariants.{Usage, Robot as AtRobot, Rows, Input, Output, Memory}
 
@@ -148,13 +151,21 @@ plan_of command tree start = plan command.order tree start command.rows command.
 abbrev pub job_of : Plan → Task → Job
 job_of plan task = record { robot = plan.tree; task = task; echo = plan.echo }
 
--- the words name files, and the plan's robot and state are theirs
+-- articulated bodies, which are asked only of a robot in which no joint follows another
+abbrev pub articulated : Order
+articulated = order.Rows task.Aba
+
+abbrev pub Leads : Order → Tree → Type 0
+Leads asked tree = asked ≡ articulated → has_mimic tree.bodies ≡ false
+
+-- the words name files, and the plan's robot and state are theirs; the robot is fit for what is asked
 pub record IsPlan (words : List (List ℕ)) (held : List ℕ → List ℕ) (plan : Plan) : Type 0 where
   pub command : Asked
   pub told : command_of words ≡ Ok command
   pub robot : IsRobotOf command.root (files_of command held) plan.tree
   pub start : IsStart plan.tree command.gravity command.state plan.start
   pub asked : plan ≡ plan_of command plan.tree plan.start
+  pub leads : Leads plan.order plan.tree
 
 -- the words name files, which have this fault
 pub record HasNoRobot (words : List (List ℕ)) (held : List ℕ → List ℕ) (fault : RobotFault) : Type 0 where
@@ -172,8 +183,20 @@ pub record HasNoState (words : List (List ℕ)) (held : List ℕ → List ℕ) :
   pub named : command.state ≡ Some name
   pub unknown : HasState tree.states name → ⊥
 
+-- the words ask for articulated bodies, and a joint of the robot of the files follows another
+pub record HasFollower (words : List (List ℕ)) (held : List ℕ → List ℕ) : Type 0 where
+  pub command : Asked
+  pub told : command_of words ≡ Ok command
+  pub tree : Tree
+  pub robot : IsRobotOf command.root (files_of command held) tree
+  pub start : Row
+  pub starts : IsStart tree command.gravity command.state start
+  pub order : command.order ≡ articulated
+  pub mimic : has_mimic tree.bodies ≡ true
+
 abbrev pub IsMisused : List (List ℕ) → (List ℕ → List ℕ) → UsageFault → Type 0
 IsMisused words held State = HasNoState words held
+IsMisused words held Mimic = HasFollower words held
 IsMisused words held (Words fault) = command_of words ≡ Err fault
 
 -- the first thing for which there is no plan

@@ -14,7 +14,7 @@ use Rattle.rbd.specs.declared.stop.Stop.{Stop}
 use Rattle.rbd.specs.declared.stop.Stop.TheVariants.{Usage, Robot, Rows, Input, Output, Memory}
 use Rattle.rbd.specs.declared.status.Status.{Status}
 use Rattle.rbd.specs.declared.status.Status.TheVariants as status
-use Rattle.rbd.specs.Plan.{Plan, most_file}
+use Rattle.rbd.specs.Plan.{Plan, articulated, most_file}
 use Rattle.rbd.specs.Inputs.{most_rows}
 use Rattle.rbd.specs.Course.{Course, course_of, IsCourse}
 use Rattle.rbd.specs.Ends.{status_of, text_of}
@@ -101,9 +101,16 @@ pub record NamesState (words : List (List ℕ)) : Type 0 where
   pub name : List ℕ
   pub named : command.state ≡ Some name
 
--- the words do not fit, or name a state that may be unknown
+-- the words ask for articulated bodies
+pub record AsksArticulated (words : List (List ℕ)) : Type 0 where
+  pub command : Asked
+  pub told : command_of words ≡ Ok command
+  pub order : command.order ≡ articulated
+
+-- the words do not fit, or name a state that may be unknown, or ask for articulated bodies, for which the robot may not be fit
 abbrev pub IsUsage : List (List ℕ) → UsageFault → Type 0
 IsUsage words misuse.State = NamesState words
+IsUsage words misuse.Mimic = AsksArticulated words
 IsUsage words (misuse.Words fault) = command_of words ≡ Err fault
 
 -- the steps of a run up to its answer. The causes in the words, in the counts and in the number of bytes given stand also where the inputs do not

@@ -3,10 +3,10 @@ ghost use Rattle.std.specs.Prelude.{◌≡◌, ◌≤◌, length, OnOk, IfOk};
 ghost use Rattle.rb_io.specs.declared.lines.TheConstants.{MOST_LINE};
 ghost use Rattle.rb_tree.specs.Places.{IsFor};
 ghost use Rattle.rb_tree.specs.State.{Fits};
-ghost use Rattle.rb_rows.specs.Head.{IsBuilt};
 ghost use Rattle.rb_rows.specs.Header.{HasPlaces};
 ghost use Rattle.rb_rows.specs.Row.{row_of};
 ghost use Rattle.rb_run.specs.Answers.{Holds, slot_of, is_refused};
+ghost use Rattle.rb_run.specs.Jobs.{IsJob};
 ghost use Rattle.rb_run.specs.Line.{line_of};
 ghost use Rattle.rbd.specs.Desk.{IsDeskOf};
 
@@ -80,7 +80,7 @@ impl Desk {
         number: u64,
         row: &[u8],
     ) -> Result<bool, AllocError>
-        requires task { IsBuilt job.now.task }
+        requires task { IsJob job.now }
         requires desk { IsDeskOf job.now self.old }
         requires start { Fits job.now.robot start.now }
         requires places { HasPlaces header.now start.now }

@@ -42,6 +42,7 @@ fn usage_word(fault: UsageFault) -> &'static [u8]
     match fault {
         UsageFault::Words(fault) => fault.word().as_bytes(),
         UsageFault::State => b"state",
+        UsageFault::Mimic => b"mimic",
     }
 }
 

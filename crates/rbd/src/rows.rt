@@ -7,10 +7,10 @@ ghost use Rattle.rb_io.specs.declared.lines.TheConstants.{MOST_LINE};
 ghost use Rattle.rb_result.specs.Steps.{told_as};
 ghost use Rattle.rb_tree.specs.Robot.{Tree};
 ghost use Rattle.rb_tree.specs.State.{Fits, Row};
-ghost use Rattle.rb_rows.specs.Head.{IsBuilt};
 ghost use Rattle.rb_rows.specs.Header.{HasPlaces, header_of as targets_of_line};
 ghost use Rattle.rb_rows.specs.Row.{row_of};
 ghost use Rattle.rb_run.specs.Answers.{slot_of, is_refused};
+ghost use Rattle.rb_run.specs.Jobs.{IsJob};
 ghost use Rattle.rb_run.specs.Line.{line_of};
 ghost use Rattle.rbd.specs.Course.{head_of, course_behind, course_of_rows};
 ghost use Rattle.rbd.specs.Desk.{IsDeskOf};
@@ -40,7 +40,7 @@ fn put_row<O: Sink>(
     desk: &mut Desk,
     out: &mut O,
 ) -> Result<bool, RowsStop>
-    requires task { IsBuilt job.now.task }
+    requires task { IsJob job.now }
     requires desk { IsDeskOf job.now desk.old }
     requires start { Fits job.now.robot start.now }
     requires places { HasPlaces header.now start.now }
@@ -69,7 +69,7 @@ fn put_rows<O: Sink>(
     desk: &mut Desk,
     out: &mut O,
 ) -> Result<bool, RowsStop>
-    requires task { IsBuilt job.now.task }
+    requires task { IsJob job.now }
     requires desk { IsDeskOf job.now desk.old }
     requires start { Fits job.now.robot start.now }
     requires places { HasPlaces header.now start.now }
@@ -174,7 +174,7 @@ fn answer_behind<O: Sink>(
     rest: &[u8],
     out: &mut O,
 ) -> Result<bool, RowsStop>
-    requires task { IsBuilt job.now.task }
+    requires task { IsJob job.now }
     requires start { Fits job.now.robot start.now }
     requires places { HasPlaces header.now start.now }
     requires short { length rest.now ≤ most_rows }
@@ -202,7 +202,7 @@ pub(crate) fn answer_all<O: Sink>(
     bytes: &[u8],
     out: &mut O,
 ) -> Result<bool, RowsStop>
-    requires task { IsBuilt job.now.task }
+    requires task { IsJob job.now }
     requires start { Fits job.now.robot start.now }
     requires short { length bytes.now ≤ most_rows }
     ensures tells { IsTrue (O.tells out.new) → IsTrue (O.tells out.old) }

@@ -1,15 +1,17 @@
 //! A run: the words, the robot's files, and what is asked of the robot.
-ghost use Rattle.std.specs.Prelude.{◌≡◌, ◌⊎◌, ◌++◌, [], Bool, IsTrue, IsErrOf, map, string_bytes, Result};
+ghost use Rattle.std.specs.Prelude.{◌≡◌, ◌⊎◌, ◌++◌, [], Bool, true, false, IsTrue, IsErrOf, map, string_bytes, Result};
 ghost use Rattle.rb_io.specs.Outside.{Rose};
 ghost use Rattle.rb_io.specs.Calls.{PutsPart};
 ghost use Rattle.rb_result.specs.Steps.{told_as};
 ghost use Rattle.rb_model.specs.Model.{model_text};
 ghost use Rattle.rb_rows.specs.Columns.{state_columns};
-ghost use Rattle.rb_rows.specs.Head.{IsBuilt as IsBuiltTask, line_of as text_of_names};
+ghost use Rattle.rb_rows.specs.Head.{line_of as text_of_names};
+ghost use Rattle.rb_run.specs.Jobs.{IsJob};
+ghost use Rattle.rb_tree.specs.Columns.{has_mimic};
 ghost use Rattle.rb_tree.specs.State.{Fits};
 ghost use Rattle.rb_words.specs.Words.{IsBuilt};
 ghost use Rattle.rbd.specs.Course.{tells as text_course};
-ghost use Rattle.rbd.specs.Plan.{plan};
+ghost use Rattle.rbd.specs.Plan.{plan, articulated, Leads};
 ghost use Rattle.rbd.specs.Run.{source, stream, Follows, Obeys, Goes, Ends, IsComplete, IsRest};
 ghost use Rattle.rbd.specs.Stops.{stop_of_rows};
 ghost use Rattle.rbd.specs.Headline.{Headline};
@@ -19,12 +21,12 @@ use crate::put::put;
 use crate::read::{read_robot, read_rows, start_of};
 use crate::rows::answer_all;
 use crate::status::Status;
-use crate::stop::{RowsStop, Stop, of_reading, of_robot, of_rows, of_start, of_words};
+use crate::stop::{RowsStop, Stop, UsageFault, of_reading, of_robot, of_rows, of_start, of_words};
 use rb_io::{Inputs, Sink, put_all};
 use rb_model::model_text;
 use rb_rows::column_line;
-use rb_run::Job;
 use rb_run::laws::answer_law;
+use rb_run::{Job, Task};
 use rb_text::Out;
 use rb_tree::{Robot, State};
 use rb_words::{Command, Order, read_words};
@@ -69,7 +71,7 @@ fn answer_rows<I: Inputs, O: Sink>(
     inputs: &mut I,
     out: &mut O,
 ) -> Result<bool, Stop>
-    requires task { IsBuiltTask job.now.task }
+    requires task { IsJob job.now }
     requires start { Fits job.now.robot start.now }
     ensures tells { IsTrue (O.tells out.new) → IsTrue (O.tells out.old) }
     ensures obeys { Obeys (plan (Order.Rows job.now.task) job.now.robot start.now name.now job.now.echo)
@@ -95,6 +97,7 @@ fn obey<I: Inputs, O: Sink>(
     out: &mut O,
 ) -> Result<bool, Stop>
     requires built { IsBuilt command.now.order }
+    requires leads { Leads command.now.order robot }
     requires start { Fits robot start.now }
     ensures tells { IsTrue (O.tells out.new) → IsTrue (O.tells out.old) }
     ensures obeys { Obeys (plan command.now.order robot start.now command.now.rows.now command.now.echo)
@@ -115,6 +118,18 @@ fn obey<I: Inputs, O: Sink>(
     match done {
         Ok(refused) => Ok(refused),
         Err(stop) => Err(of_rows(stop)),
+    }
+}
+
+/// Whether articulated bodies are asked of a robot in which a joint follows another.
+fn is_unfit(order: Order, robot: &Robot) -> bool
+    ensures articulated { result ≡ true → order ≡ articulated }
+    ensures mimic { result ≡ true → has_mimic robot.now.bodies ≡ true }
+    ensures leads { result ≡ false → Leads order robot.now }
+{
+    match order {
+        Order::Rows(Task::Aba) => robot.has_mimic(),
+        Order::Rows(_) | Order::Model | Order::Columns => false,
     }
 }
 
@@ -142,6 +157,9 @@ fn steps<I: Inputs, O: Sink>(
         Ok(start) => start,
         Err(stop) => return Err(of_start(stop)),
     };
+    if is_unfit(command.order, &robot) {
+        return Err(Stop::Usage(UsageFault::Mimic));
+    }
     obey(alloc, &command, robot, &start, inputs, out)
 }
 

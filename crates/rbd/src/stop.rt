@@ -17,6 +17,8 @@ pub enum UsageFault {
     Words(WordsFault),
     /// No group state has the name.
     State,
+    /// Articulated bodies are asked of a robot in which a joint follows another.
+    Mimic,
 }
 
 /// What is wrong with the robot's files.

@@ -247,7 +247,7 @@ const WORKED: [(&[&str], &[u8], &[u8], Status, &[u8]); 13] = [
 ];
 
 // A task over rows, a robot, a table, the status, and what is put.
-const TASKS: [(&str, &[u8], &[u8], Status, &[u8]); 7] = [
+const TASKS: [(&str, &[u8], &[u8], Status, &[u8]); 10] = [
     // the first joint moves both bodies
     (
         "crba",
@@ -302,6 +302,28 @@ const TASKS: [(&str, &[u8], &[u8], Status, &[u8]); 7] = [
         Status::Refused,
         b"row,answer,cause,a.lift\n1,field,Count[1],\n2,ok,,1.500000000000..1.500000000000\n",
     ),
+    // the same by articulated bodies
+    (
+        "aba",
+        STACK,
+        b"tau.one,tau.two\n3,1\n",
+        Status::Done,
+        b"row,answer,cause,a.one,a.two\n1,ok,,2.000000000000..2.000000000000,-1.000000000000..-1.000000000000\n",
+    ),
+    (
+        "aba",
+        LEAF,
+        b"tau.hinge\n0\n",
+        Status::Refused,
+        b"row,answer,cause,a.hinge\n1,pivot,D[1]=0.000000000000..0.000000000000,\n",
+    ),
+    (
+        "aba",
+        LIFT,
+        b"tau.lift\n22.62\n",
+        Status::Done,
+        b"row,answer,cause,a.lift\n1,ok,,1.500000000000..1.500000000000\n",
+    ),
 ];
 
 #[test]
@@ -317,6 +339,21 @@ fn tasks_have_their_values(rt: HostRuntime) -> Result<(), Fail> {
         assert_eq!(rt; ran.status, *status);
         assert_eq!(rt; ran.err.bytes(), b"".as_slice());
     }
+    Ok(())
+}
+
+// Articulated bodies are asked only of a robot in which no joint follows another.
+#[test]
+fn followers_are_refused(rt: HostRuntime) -> Result<(), Fail> {
+    let held = Held {
+        robot: PAIR,
+        poses: b"",
+        rows: b"tau.one\n5\n",
+    };
+    let ran = run_words(rt.alloc(), &["--task", "aba", "--urdf", "robot.urdf"], held)?;
+    assert_eq!(rt; ran.out.bytes(), b"".as_slice());
+    assert_eq!(rt; ran.status, Status::Usage);
+    assert_eq!(rt; ran.err.bytes(), b"rbd: usage: mimic\n".as_slice());
     Ok(())
 }
 
@@ -339,7 +376,7 @@ fn runs_put_what_they_are_asked_for(rt: HostRuntime) -> Result<(), Fail> {
 // Words, the poses, the status and the line on standard error. The robot is the arm, and nothing is put.
 const REFUSED: [(&[&str], &[u8], Status, &[u8]); 9] = [
     (
-        &["--task", "aba", "--urdf", "robot.urdf"],
+        &["--task", "contact", "--urdf", "robot.urdf"],
         b"",
         Status::Usage,
         b"rbd: usage: task\n",
