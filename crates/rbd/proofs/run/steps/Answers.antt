@@ -3,6 +3,8 @@ use Rattle.rb_words.specs.Words.{asked_by}
 use Rattle.rb_words.specs.declared.faults.WordsFault.TheVariants as words_fault
 use Rattle.rb_words.specs.declared.faults.WordsStop.TheVariants as of_words
 use Rattle.rbd.specs.declared.stop.ReadStop.TheVariants as read
+use Rattle.rbd.specs.declared.stop.Stop.TheVariants as stop
+use Rattle.rbd.specs.declared.stop.UsageFault.TheVariants as usage
 use Rattle.rbd.proofs.Going.{goes_words, goes_robot, goes_start, goes_mimic, goes_obeyed}
 use Rattle.rbd.proofs.Saying.{rest_of_words, rest_none}
 use Rattle.rbd.proofs.run.steps.Goals as goal
@@ -27,7 +29,7 @@ returns-in-Err-start_of-clause-goes g c =
 
 pub returns-clause-goes : goal.returns-clause-goes
 returns-clause-goes g c =
-    goes_obeyed _ (asked_by c.in-Ok.command) c.in-Ok-read_robot.robot c.in-Ok-start_of.start _ _ _ c.in-Ok.ensures.ok c.in-Ok-read_robot.ensures.robot c.in-Ok-start_of.ensures.ok (c.is_unfit.ensures.leads c.else-is_unfit.is)
+    goes_obeyed _ (asked_by c.in-Ok.command) c.in-Ok-read_robot.robot c.in-Ok-start_of.start _ _ _ c.in-Ok.ensures.ok c.in-Ok-read_robot.ensures.robot c.in-Ok-start_of.ensures.ok (c.is_unfit.ensures.leads c.if-is_unfit.false)
     c.read_robot.ensures.tells c.read_robot.ensures.holds refl (c.in-Ok-read_robot.ensures.kept (λ e. absurd cc)) refl _ c.obey.ensures.obeys
 
 pub returns-in-Err-clause-rest : goal.returns-in-Err-clause-rest
@@ -45,8 +47,8 @@ returns-clause-rest g c = λ none. rest_none _ (c.in-Ok.ensures.quiet (λ e. abs
 pub returns-then-is_unfit-clause-goes : goal.returns-then-is_unfit-clause-goes
 returns-then-is_unfit-clause-goes g c =
     goes_mimic _ (asked_by c.in-Ok.command) c.in-Ok-read_robot.robot c.in-Ok-start_of.start _ _ c.in-Ok.ensures.ok c.in-Ok-read_robot.ensures.robot
-    (record { starts = c.in-Ok-start_of.ensures.ok; order = c.is_unfit.ensures.articulated c.then-is_unfit.is; mimic = c.is_unfit.ensures.mimic c.then-is_unfit.is })
+    (record { starts = c.in-Ok-start_of.ensures.ok; order = c.is_unfit.ensures.articulated c.if-is_unfit.true; mimic = c.is_unfit.ensures.mimic c.if-is_unfit.true })
     (c.in-Ok-read_robot.ensures.kept (λ e. absurd cc)) (record { count = refl; bytes = λ told. refl })
 
 pub returns-then-is_unfit-clause-rest : goal.returns-then-is_unfit-clause-rest
-returns-then-is_unfit-clause-rest g c = λ none. rest_none _ (c.in-Ok.ensures.quiet (λ e. absurd cc) ∙ none)
+returns-then-is_unfit-clause-rest g c = λ none. rest_none (Err (stop.Usage usage.Mimic)) (c.in-Ok.ensures.quiet (λ e. absurd cc) ∙ none)
