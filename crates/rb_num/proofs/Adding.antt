@@ -1,8 +1,8 @@
 -- Sums of products, pair by pair.
-use Rattle.std.proofs.Common.{◌≡◌, ℕ, ℤ, pos, neg_ℤ, ◌+◌, ◌-◌, ◌<◌, ◌+ℤ◌, ◌-ℤ◌, ◌*ℤ◌, ◌≤ℤ◌, List, ◌∷◌, arith, ap, sym, subst, refl, ◌∙◌, to_z, of_z, Ok}
-use Rattle.std.proofs.lemmas.Int.{ints, clamps}
+use Rattle.std.proofs.Common.{◌≡◌, ℕ, ℤ, pos, neg_ℤ, ◌+◌, ◌-◌, ◌<◌, ◌+ℤ◌, ◌-ℤ◌, ◌*ℤ◌, ◌≤ℤ◌, ◌<ℤ◌, ◌^◌, List, ◌∷◌, arith, ap, sym, subst, refl, ◌∙◌, to_z, of_z, Ok}
+use Rattle.std.proofs.lemmas.Int.{ints, clamps, to_z-of_z}
 use Rattle.std.proofs.lemmas.List.Elements.{All-cons}
-use mir.Syntax.{w128}
+use mir.Syntax.{w64, w128}
 use mir.Val.{SFits}
 use Rattle.rb_frac.proofs.Whole.{neg-mul}
 use Rattle.rb_num.specs.Interval.{Interval, IsInterval, IsWithin, interval, grid, limit, negative_of}
@@ -10,8 +10,8 @@ use Rattle.rb_num.specs.Dot.{least_product, greatest_product, ProductsFit, floor
 use Rattle.rb_num.specs.Narrow.{IsNarrow}
 use Rattle.rb_num.specs.Reciprocal.{IsNear}
 use Rattle.rb_num.specs.Sums.{Totals, AreBounded, AreSums, AreNear, plus, rounded}
-use Rattle.rb_num.proofs.Ends.{read, both, made}
-use Rattle.rb_num.proofs.Quotients.{grid_positive, floor-high, ceil-low, floor-le-ceil}
+use Rattle.rb_num.proofs.Ends.{read, both}
+use Rattle.rb_num.proofs.Quotients.{grid_positive, floor-low, floor-high, ceil-low, ceil-high, floor-le-ceil}
 use Rattle.rb_num.proofs.Dots.{products_ordered, quotient_above, quotient_below}
 use Rattle.rb_num.proofs.Refused.{ok_is}
 
@@ -122,21 +122,48 @@ rounded_ends low high n b =
       high = quotient_below high (ceil_of high grid) n (omega arith) b.above (ceil-low high grid grid_positive);
     }
 
+-- an end that fits 64 bits, as the code finds it and reads it
+read_narrow : (z : ℤ) {y : ℤ} → neg_ℤ (pos (2 ^ 60)) ≤ℤ y → y ≤ℤ pos (2 ^ 60) → z ≡ y → to_z w64 (of_z w64 (to_z w128 (of_z w128 z))) ≡ y
+read_narrow z {y} low high e =
+    let r : to_z w128 (of_z w128 z) ≡ y = read z (omega (arith, ints)) e in
+    to_z-of_z w64 (to_z w128 (of_z w128 z)) (omega (arith, ints)) ∙ r
+
+-- near sums round to ends that are not large
+near_floor : (z : ℤ) → IsNear grid z → (neg_ℤ (pos (2 ^ 60)) ≤ℤ floor_of z grid) × (floor_of z grid ≤ℤ pos (2 ^ 60))
+near_floor z n =
+    let n1 = n.above in let n2 = n.below in
+    let below = floor-low z grid grid_positive in
+    let above = floor-high z grid grid_positive in
+    (omega (arith, ints), omega (arith, ints))
+
+near_ceil : (z : ℤ) → IsNear grid (z +ℤ pos (grid - 1)) → (neg_ℤ (pos (2 ^ 60)) ≤ℤ ceil_of z grid) × (ceil_of z grid ≤ℤ pos (2 ^ 60))
+near_ceil z n =
+    let n1 = n.above in let n2 = n.below in
+    let below = ceil-low z grid grid_positive in
+    let above = ceil-high z grid grid_positive in
+    (omega (arith, ints), omega (arith, ints))
+
 -- rounded, as the code finds them
 pub record AreRounded (q r : ℤ) (t : Totals) : Type 0 where
   pub near : AreNear t
-  pub whole : IsInterval (to_z w128 (of_z w128 q)) (to_z w128 (of_z w128 r))
-  pub value : interval (to_z w128 (of_z w128 q)) (to_z w128 (of_z w128 r)) ≡ rounded t
+  pub narrow : IsNarrow (to_z w64 (of_z w64 (to_z w128 (of_z w128 q)))) (to_z w64 (of_z w64 (to_z w128 (of_z w128 r))))
+  pub value : interval (to_z w64 (of_z w64 (to_z w128 (of_z w128 q)))) (to_z w64 (of_z w64 (to_z w128 (of_z w128 r)))) ≡ rounded t
 
 rounded_at : (low high q r : ℤ) (n : ℕ) → AreBounded low high n → IsNear grid low × (q ≡ floor_of low grid) → IsNear grid (high +ℤ pos (grid - 1)) × (r ≡ ceil_of high grid)
     → AreRounded q r (totals low high n)
 rounded_at low high q r n b eq er =
     let v = rounded_ends low high n b in
-    let v1 : neg_ℤ (pos limit) ≤ℤ floor_of low grid = v.low in
     let v2 : floor_of low grid ≤ℤ ceil_of high grid = v.ordered in
-    let v3 : ceil_of high grid ≤ℤ pos limit = v.high in
-    let m = made (interval (floor_of low grid) (ceil_of high grid)) q r v eq.1 er.1 in
-    record { near = record { low = eq.0; high = er.0 }; whole = m.invariant; value = m.value }
+    let fl = near_floor low eq.0 in
+    let fh = near_ceil high er.0 in
+    let f1 = fl.0 in let f2 = fl.1 in let h1 = fh.0 in let h2 = fh.1 in
+    let rq = read_narrow q f1 f2 eq.1 in
+    let rr = read_narrow r h1 h2 er.1 in
+    record {
+      near = record { low = eq.0; high = er.0 };
+      narrow = record { ordered = omega (arith, ints); low = omega (arith, ints); high = omega (arith, ints) };
+      value = ap (λ (x : ℤ). interval x (to_z w64 (of_z w64 (to_z w128 (of_z w128 r))))) rq ∙ ap (λ (y : ℤ). interval (floor_of low grid) y) rr;
+    }
 
 pub rounded_made : (low high q r : ℤ) (n : ℕ) (t : Totals) → AreBounded low high n → totals low high n ≡ t
     → IsNear grid (to_z w128 (of_z w128 low)) × (q ≡ floor_of (to_z w128 (of_z w128 low)) grid)
@@ -148,9 +175,6 @@ rounded_made low high q r n t b e eq er =
     let rh : to_z w128 (of_z w128 high) ≡ high = read high (omega (arith, ints)) refl in
     subst (AreRounded q r) e
     (rounded_at low high q r n b (subst (λ (z : ℤ). IsNear grid z × (q ≡ floor_of z grid)) rl eq) (subst (λ (z : ℤ). IsNear grid (z +ℤ pos (grid - 1)) × (r ≡ ceil_of z grid)) rh er))
-
-pub narrow_at : (x y : ℤ) (v : Interval) → interval x y ≡ v → IsNarrow x y → IsNarrow v.lo v.hi
-narrow_at x y v e h = subst (λ (u : Interval). IsNarrow u.lo u.hi) e h
 
 pub rounded_sums : (pairs : List (Interval × Interval)) (t : Totals) → AreSums pairs t → iv_dot pairs ≡ Ok (rounded t)
 unfolding dot_of

@@ -4,7 +4,6 @@ use Rattle.std.specs.List.{All}
 use Rattle.rb_num.specs.declared.interval.TheConstants.{MAX_PAIRS}
 use Rattle.rb_num.specs.Interval.{Interval, limit, grid, interval}
 use Rattle.rb_num.specs.Dot.{ProductsFit, least_product, greatest_product, int_sum_by, floor_of, ceil_of}
-use Rattle.rb_num.specs.Narrow.{IsNarrow}
 use Rattle.rb_num.specs.Reciprocal.{IsNear}
 
 -- the sums of the least and of the greatest products, and of how many pairs they are
@@ -30,11 +29,6 @@ pub record AreSums (pairs : List (Interval × Interval)) (t : Totals) : Type 0 w
 -- one more pair in front
 abbrev pub plus : Interval × Interval → Totals → Totals
 plus p t = record { low = least_product p +ℤ t.low; high = greatest_product p +ℤ t.high; count = t.count + 1 }
-
--- both intervals are narrow
-pub record AreNarrow (a b : Interval) : Type 0 where
-  pub first : IsNarrow a.lo a.hi
-  pub second : IsNarrow b.lo b.hi
 
 -- what the sums are rounded to, outwards
 abbrev pub rounded : Totals → Interval

@@ -11,7 +11,7 @@ ghost use Rattle.rb_num.specs.Least.{IsLeast, HasSums, HasQuotients, HasBoth};
 ghost use Rattle.rb_num.specs.Hull.{hull_of, meet_of, Meet, do_meet};
 ghost use Rattle.rb_num.specs.Quotient.{HasZero, floor_quotient as floor_quotient_of, quotient_of, quotients_of, least_of, QuotientFits, IsQuotientFault};
 
-use crate::narrow::Narrow;
+use crate::narrow::{Ends, Narrow};
 use crate::sums::Sums;
 use std::marker::Model;
 
@@ -186,9 +186,9 @@ fn narrow_dot(pairs: &[(Iv, Iv)]) -> Option<Iv>
 {
     let mut sums = Sums::none();
     for k in (0..pairs.len()).rev() {
-        sums = sums.with(&pairs[k].0, &pairs[k].1)?;
+        sums = sums.with(pairs[k].0.narrow()?, pairs[k].1.narrow()?);
     }
-    sums.sum()
+    Some(sums.sum()?.wide())
 }
 
 // The same as `dot`, for intervals of any size.
@@ -266,18 +266,16 @@ impl Iv {
         self.hi
     }
 
-    // The ends, where the interval is narrow.
+    /// The same interval, where its ends are at most 2^60 units in size.
     #[inline(always)]
-    pub(crate) fn narrow(self) -> Option<Narrow>
-        ensures narrow { IsSome result ↔ IsNarrow self.lo self.hi }
-        ensures ends { IfSome result (λ n. interval n.lo n.hi ≡ self) }
-        ensures small { IfSome result (λ n. IsNarrow n.lo n.hi) }
+    pub fn narrow(self) -> Option<Narrow>
+        ensures { SomeIff result (IsNarrow self.lo self.hi) self }
     {
         if -NARROW <= self.lo && self.hi <= NARROW {
-            Some(Narrow {
+            Some(Narrow(Ends {
                 lo: self.lo as i64,
                 hi: self.hi as i64,
-            })
+            }))
         } else {
             None
         }

@@ -16,6 +16,7 @@ mod text;
 
 pub use interval::{B, Iv, MAX_PAIRS, NumFault, S, dot};
 pub use laws::{cut_law, dot_without_zero_law, lies_in_law, meet_law, sine_law, zero_law};
+pub use narrow::Narrow;
 pub use rounding::Divisor;
 pub use sums::Sums;
 pub use terms::TERMS;

@@ -4,10 +4,9 @@ ghost use Rattle.std.specs.Prelude.{◌≡◌, ◌<◌, [], ◌∷◌, List, Ok,
 ghost use Rattle.rb_num.specs.Interval.{Interval, negative_of};
 ghost use Rattle.rb_num.specs.declared.interval.TheConstants.{MAX_PAIRS};
 ghost use Rattle.rb_num.specs.Dot.{iv_dot};
-ghost use Rattle.rb_num.specs.Sums.{AreSums, AreNarrow, AreNear, plus, rounded};
+ghost use Rattle.rb_num.specs.Sums.{AreSums, AreNear, plus, rounded};
 
-use crate::interval::Iv;
-use crate::narrow::product_ends;
+use crate::narrow::{Ends, Narrow, product_ends};
 use crate::rounding::BY_GRID;
 use std::marker::Model;
 
@@ -46,48 +45,47 @@ impl Sums {
         }
     }
 
-    /// Those of one more pair, in front: `None` exactly where one of its intervals is not narrow.
+    /// Those of one more pair, in front.
     #[inline(always)]
-    pub fn with(self, a: &Iv, b: &Iv) -> Option<Sums>
+    pub fn with(self, a: Narrow, b: Narrow) -> Sums
         requires { self.count < MAX_PAIRS }
-        ensures exact { SomeIff result (AreNarrow a.now b.now) (plus (a.now, b.now) self) }
-        ensures sums { (pairs : List (Interval × Interval)) → AreSums pairs self → IfSome result (AreSums ((a.now, b.now) ∷ pairs)) }
+        ensures exact { result ≡ plus (a, b) self }
+        ensures sums { (pairs : List (Interval × Interval)) → AreSums pairs self → AreSums ((a, b) ∷ pairs) result }
     {
-        let first = a.narrow()?;
-        let second = b.narrow()?;
-        let (least, greatest) = product_ends(first, second);
-        Some(Sums {
+        let (least, greatest) = product_ends(a.0, b.0);
+        Sums {
             low: least + self.low,
             high: greatest + self.high,
             count: self.count + 1,
-        })
+        }
     }
 
-    /// Those of one more pair, in front, of the negative of `a` and of `b`: `None` exactly where one of the two is not narrow.
+    /// Those of one more pair, in front, of the negative of `a` and of `b`.
     #[inline(always)]
-    pub fn less(self, a: &Iv, b: &Iv) -> Option<Sums>
+    pub fn less(self, a: Narrow, b: Narrow) -> Sums
         requires { self.count < MAX_PAIRS }
-        ensures exact { SomeIff result (AreNarrow a.now b.now) (plus (negative_of a.now, b.now) self) }
-        ensures sums { (pairs : List (Interval × Interval)) → AreSums pairs self → IfSome result (AreSums ((negative_of a.now, b.now) ∷ pairs)) }
+        ensures exact { result ≡ plus (negative_of a, b) self }
+        ensures sums { (pairs : List (Interval × Interval)) → AreSums pairs self → AreSums ((negative_of a, b) ∷ pairs) result }
     {
-        let first = a.narrow()?;
-        let second = b.narrow()?;
-        let (least, greatest) = product_ends(first, second);
-        Some(Sums {
+        let (least, greatest) = product_ends(a.0, b.0);
+        Sums {
             low: self.low - greatest,
             high: self.high - least,
             count: self.count + 1,
-        })
+        }
     }
 
     /// The sum of the products, as `dot` has it: `None` exactly where the sums are not near.
     #[inline(always)]
-    pub fn sum(self) -> Option<Iv>
+    pub fn sum(self) -> Option<Narrow>
         ensures exact { SomeIff result (AreNear self) (rounded self) }
         ensures sum { (pairs : List (Interval × Interval)) → AreSums pairs self → IfSome result (λ v. iv_dot pairs ≡ Ok v) }
     {
         let lo = BY_GRID.rounded_down(self.low)?;
         let hi = BY_GRID.rounded_up(self.high)?;
-        Some(Iv::new(lo, hi))
+        Some(Narrow(Ends {
+            lo: lo as i64,
+            hi: hi as i64,
+        }))
     }
 }
