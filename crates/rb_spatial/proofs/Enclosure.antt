@@ -10,8 +10,8 @@ use Rattle.rb_frac.specs.Spatial.{Spatial, Place, BodyInertia, Inertia, entry}
 use Rattle.rb_spatial.specs.Motions.{cross3, cross_twice, plus_cross, multiple, mul, apply, apply_dual, cross, cross_dual, power}
 use Rattle.rb_spatial.specs.Motions.{EnclosesCross3, EnclosesCrossTwice, EnclosesPlusCross, EnclosesMultiple, EnclosesMul, EnclosesApply, EnclosesApplyDual, EnclosesCross, EnclosesCrossDual, EnclosesPower}
 use Rattle.rb_spatial.specs.Inertias.{table, times, less_outer, EnclosesLessOuter, EnclosesEntry, EnclosesTable, EnclosesTimes, EnclosesTimesBody}
-use Rattle.rb_spatial.specs.Carrying.{product, upper_product, EnclosesProduct, EnclosesUpperProduct}
-use Rattle.rb_spatial.proofs.Keep.{cross3_met, cross_twice_met, plus_cross_met, multiple_met, mul_met, apply_met, apply_dual_met, cross_met, cross_dual_met, power_met, entry_rel, table_rel, times_met, less_outer_met, product_met, upper_product_met}
+use Rattle.rb_spatial.specs.Carrying.{product, upper_product, carry, EnclosesProduct, EnclosesUpperProduct, EnclosesCarry}
+use Rattle.rb_spatial.proofs.Keep.{cross3_met, cross_twice_met, plus_cross_met, multiple_met, mul_met, apply_met, apply_dual_met, cross_met, cross_dual_met, power_met, entry_rel, table_rel, times_met, less_outer_met, product_met, upper_product_met, carry_met}
 
 pub cross3_encloses : (u w : V3 Interval) (n : Result (V3 Interval) NumFault) → n ≡ cross3 intervals u w → IfOk n (EnclosesCross3 u w)
 cross3_encloses u w n e = if_answer n (EnclosesCross3 u w) (λ v k. record { at = λ p q hp hq. ok_met (sym e ∙ k) (cross3_met to_intervals hp hq) })
@@ -63,3 +63,6 @@ product_encloses s t n e = if_answer n (EnclosesProduct s t) (λ v k. record { a
 
 pub upper_product_encloses : (s t : Table Interval) (n : Result (Symmetric Interval) NumFault) → n ≡ upper_product intervals s t → IfOk n (EnclosesUpperProduct s t)
 upper_product_encloses s t n e = if_answer n (EnclosesUpperProduct s t) (λ v k. record { at = λ p q hp hq. ok_met (sym e ∙ k) (upper_product_met to_intervals hp hq) })
+
+pub carry_encloses : (x : Place Interval) (i : Inertia Interval) (n : Result (Inertia Interval) NumFault) → n ≡ carry intervals x i → IfOk n (EnclosesCarry x i)
+carry_encloses x i n e = if_answer n (EnclosesCarry x i) (λ v k. record { at = λ p q hp hq. ok_met (sym e ∙ k) (carry_met to_intervals hp hq) })

@@ -1,7 +1,6 @@
 ghost use Rattle.std.specs.Prelude.{◌≡◌, ◌<◌, Ok, IfOk, IfErr, IfSome};
 ghost use Rattle.rb_num.specs.Arith.{intervals};
 ghost use Rattle.rb_num.specs.Dot.{iv_dot};
-ghost use Rattle.rb_frac.specs.Tables.{full as full_of};
 ghost use Rattle.rb_frac.specs.Spatial.{entry as entry_of};
 ghost use Rattle.rb_spatial.specs.Vectors.{symmetric_of};
 ghost use Rattle.rb_spatial.specs.Inertias.{EnclosesEntry, EnclosesTable, EnclosesTimes, EnclosesTimesBody, EnclosesSum, EnclosesLessOuter};
@@ -12,9 +11,10 @@ ghost use Rattle.rb_spatial.specs.Inertias.{sum_table as sum_table_of, sum_symme
 ghost use Rattle.rb_spatial.specs.Inertias.{less as less_of, less_vector as less_vector_of, less_table as less_table_of, less_symmetric as less_symmetric_of, less_outer as less_outer_of};
 
 use crate::motions::{Force, Motion, sum_vector};
+use crate::narrow::{NarrowMat3, NarrowSym3, NarrowVec3};
 use crate::near::{near_dots, near_less, near_three, near_three_back, near_turn, near_turn_back};
-use crate::vectors::{Lent, Mat3, Sym3, Vec3};
-use rb_num::{Iv, NumFault, dot};
+use crate::vectors::{Mat3, Sym3, Vec3};
+use rb_num::{Iv, Narrow, NumFault, dot};
 use std::marker::Model;
 
 /// A body: its mass, its first moment (mass times centre), and its rotational inertia about the
@@ -62,42 +62,6 @@ impl BodyInertia {
             yy: self.six[3],
             yz: self.six[4],
             zz: self.six[5],
-        }
-    }
-
-    /// The first row of the rotational inertia where it stands.
-    #[inline(always)]
-    fn row_x(&self) -> Lent<'_>
-        ensures { result ≡ (full_of self.now.six).x }
-    {
-        Lent {
-            x: &self.six[0],
-            y: &self.six[1],
-            z: &self.six[2],
-        }
-    }
-
-    /// The second row of the rotational inertia where it stands.
-    #[inline(always)]
-    fn row_y(&self) -> Lent<'_>
-        ensures { result ≡ (full_of self.now.six).y }
-    {
-        Lent {
-            x: &self.six[1],
-            y: &self.six[3],
-            z: &self.six[4],
-        }
-    }
-
-    /// The third row of the rotational inertia where it stands.
-    #[inline(always)]
-    fn row_z(&self) -> Lent<'_>
-        ensures { result ≡ (full_of self.now.six).z }
-    {
-        Lent {
-            x: &self.six[2],
-            y: &self.six[4],
-            z: &self.six[5],
         }
     }
 }
@@ -211,15 +175,17 @@ pub fn times(i: &Inertia6, m: &Motion) -> Result<Force, NumFault>
 fn near_times(i: &Inertia6, m: &Motion) -> Option<Force>
     ensures { IfSome result (λ f. times_of intervals i.now m.now ≡ Ok f) }
 {
-    let (u, w) = (m.lin.lend(), m.ang.lend());
-    let x = near_dots(&i.a.row_x(), &u, &i.b.row_x(), &w)?;
-    let y = near_dots(&i.a.row_y(), &u, &i.b.row_y(), &w)?;
-    let z = near_dots(&i.a.row_z(), &u, &i.b.row_z(), &w)?;
-    let lin = Vec3::new(x, y, z);
-    let x = near_dots(&i.b.column_x(), &u, &i.c.row_x(), &w)?;
-    let y = near_dots(&i.b.column_y(), &u, &i.c.row_y(), &w)?;
-    let z = near_dots(&i.b.column_z(), &u, &i.c.row_z(), &w)?;
-    let ang = Vec3::new(x, y, z);
+    let (a, b, c) = (i.a.narrow()?.full(), i.b.narrow()?, i.c.narrow()?.full());
+    let (u, w) = (m.lin.narrow()?, m.ang.narrow()?);
+    let side = b.transpose();
+    let x = near_dots(&a.x, &u, &b.x, &w)?;
+    let y = near_dots(&a.y, &u, &b.y, &w)?;
+    let z = near_dots(&a.z, &u, &b.z, &w)?;
+    let lin = Vec3::new(x.wide(), y.wide(), z.wide());
+    let x = near_dots(&side.x, &u, &c.x, &w)?;
+    let y = near_dots(&side.y, &u, &c.y, &w)?;
+    let z = near_dots(&side.z, &u, &c.z, &w)?;
+    let ang = Vec3::new(x.wide(), y.wide(), z.wide());
     Some(Force { lin, ang })
 }
 
@@ -254,11 +220,12 @@ pub fn times_body(i: &BodyInertia, m: &Motion) -> Result<Force, NumFault>
 fn near_body_force(i: &BodyInertia, m: &Motion) -> Option<Vec3>
     ensures { IfSome result (λ f. body_force intervals i.now m.now ≡ Ok f) }
 {
-    let (h, u, w) = (i.first.lend(), m.lin.lend(), m.ang.lend());
-    let x = near_three(&i.mass, u.x, h.z, w.y, h.y, w.z)?;
-    let y = near_three_back(&i.mass, u.y, h.z, w.x, h.x, w.z)?;
-    let z = near_three(&i.mass, u.z, h.y, w.x, h.x, w.y)?;
-    Some(Vec3::new(x, y, z))
+    let (mass, h) = (i.mass.narrow()?, i.first.narrow()?);
+    let (u, w) = (m.lin.narrow()?, m.ang.narrow()?);
+    let x = near_three(mass, u.x, h.z, w.y, h.y, w.z)?;
+    let y = near_three_back(mass, u.y, h.z, w.x, h.x, w.z)?;
+    let z = near_three(mass, u.z, h.y, w.x, h.x, w.y)?;
+    Some(Vec3::new(x.wide(), y.wide(), z.wide()))
 }
 
 #[inline(always)]
@@ -266,11 +233,12 @@ fn near_body_force(i: &BodyInertia, m: &Motion) -> Option<Vec3>
 fn near_body_moment(i: &BodyInertia, m: &Motion) -> Option<Vec3>
     ensures { IfSome result (λ n. body_moment intervals i.now m.now ≡ Ok n) }
 {
-    let (h, u, w) = (i.first.lend(), m.lin.lend(), m.ang.lend());
-    let x = near_turn_back(h.z, u.y, h.y, u.z, &i.row_x(), &w)?;
-    let y = near_turn(h.z, u.x, h.x, u.z, &i.row_y(), &w)?;
-    let z = near_turn_back(h.y, u.x, h.x, u.y, &i.row_z(), &w)?;
-    Some(Vec3::new(x, y, z))
+    let (h, six) = (i.first.narrow()?, i.rotational().narrow()?.full());
+    let (u, w) = (m.lin.narrow()?, m.ang.narrow()?);
+    let x = near_turn_back(h.z, u.y, h.y, u.z, &six.x, &w)?;
+    let y = near_turn(h.z, u.x, h.x, u.z, &six.y, &w)?;
+    let z = near_turn_back(h.y, u.x, h.x, u.y, &six.z, &w)?;
+    Some(Vec3::new(x.wide(), y.wide(), z.wide()))
 }
 
 #[inline(always)]
@@ -394,40 +362,38 @@ fn less_symmetric(i: &Sym3, u: &Vec3, w: &Vec3) -> Result<Sym3, NumFault>
 
 #[inline(always)]
 #[tactic(auto, unfolding(crate::specs::Inertias::less_vector))]
-fn near_less_vector(i: &Lent<'_>, u: &Iv, w: &Lent<'_>) -> Option<Vec3>
-    ensures { IfSome result (λ v. less_vector_of intervals i.now u.now w.now ≡ Ok v) }
+fn near_less_vector(i: &NarrowVec3, u: Narrow, w: &NarrowVec3) -> Option<NarrowVec3>
+    ensures { IfSome result (λ v. less_vector_of intervals i.now u w.now ≡ Ok v) }
 {
     let x = near_less(i.x, u, w.x)?;
     let y = near_less(i.y, u, w.y)?;
     let z = near_less(i.z, u, w.z)?;
-    Some(Vec3::new(x, y, z))
+    Some(NarrowVec3 { x, y, z })
 }
 
 #[inline(always)]
 #[tactic(auto, unfolding(crate::specs::Inertias::less_table))]
-fn near_less_table(i: &Mat3, u: &Vec3, w: &Vec3) -> Option<Mat3>
+fn near_less_table(i: &NarrowMat3, u: &NarrowVec3, w: &NarrowVec3) -> Option<NarrowMat3>
     ensures { IfSome result (λ t. less_table_of intervals i.now u.now w.now ≡ Ok t) }
 {
-    let (u, w) = (u.lend(), w.lend());
-    let x = near_less_vector(&i.row_x(), u.x, &w)?;
-    let y = near_less_vector(&i.row_y(), u.y, &w)?;
-    let z = near_less_vector(&i.row_z(), u.z, &w)?;
-    Some(Mat3::new(x, y, z))
+    let x = near_less_vector(&i.x, u.x, w)?;
+    let y = near_less_vector(&i.y, u.y, w)?;
+    let z = near_less_vector(&i.z, u.z, w)?;
+    Some(NarrowMat3 { x, y, z })
 }
 
 #[inline(always)]
 #[tactic(auto, unfolding(crate::specs::Inertias::less_symmetric))]
-fn near_less_symmetric(i: &Sym3, u: &Vec3, w: &Vec3) -> Option<Sym3>
+fn near_less_symmetric(i: &NarrowSym3, u: &NarrowVec3, w: &NarrowVec3) -> Option<NarrowSym3>
     ensures { IfSome result (λ s. less_symmetric_of intervals i.now u.now w.now ≡ Ok s) }
 {
-    let (u, w) = (u.lend(), w.lend());
-    let xx = near_less(&i.xx, u.x, w.x)?;
-    let xy = near_less(&i.xy, u.x, w.y)?;
-    let xz = near_less(&i.xz, u.x, w.z)?;
-    let yy = near_less(&i.yy, u.y, w.y)?;
-    let yz = near_less(&i.yz, u.y, w.z)?;
-    let zz = near_less(&i.zz, u.z, w.z)?;
-    Some(Sym3 {
+    let xx = near_less(i.xx, u.x, w.x)?;
+    let xy = near_less(i.xy, u.x, w.y)?;
+    let xz = near_less(i.xz, u.x, w.z)?;
+    let yy = near_less(i.yy, u.y, w.y)?;
+    let yz = near_less(i.yz, u.y, w.z)?;
+    let zz = near_less(i.zz, u.z, w.z)?;
+    Some(NarrowSym3 {
         xx,
         xy,
         xz,
@@ -442,10 +408,16 @@ fn near_less_symmetric(i: &Sym3, u: &Vec3, w: &Vec3) -> Option<Sym3>
 fn near_less_outer(i: &Inertia6, u: &Force, w: &Force) -> Option<Inertia6>
     ensures { IfSome result (λ r. less_outer_of intervals i.now u.now w.now ≡ Ok r) }
 {
-    let a = near_less_symmetric(&i.a, &u.lin, &w.lin)?;
-    let b = near_less_table(&i.b, &u.lin, &w.ang)?;
-    let c = near_less_symmetric(&i.c, &u.ang, &w.ang)?;
-    Some(Inertia6 { a, b, c })
+    let (u, n) = (u.lin.narrow()?, u.ang.narrow()?);
+    let (w, m) = (w.lin.narrow()?, w.ang.narrow()?);
+    let a = near_less_symmetric(&i.a.narrow()?, &u, &w)?;
+    let b = near_less_table(&i.b.narrow()?, &u, &m)?;
+    let c = near_less_symmetric(&i.c.narrow()?, &n, &m)?;
+    Some(Inertia6 {
+        a: a.wide(),
+        b: b.wide(),
+        c: c.wide(),
+    })
 }
 
 #[cold]

@@ -5,6 +5,7 @@ mod carrying;
 mod inertias;
 pub mod laws;
 mod motions;
+mod narrow;
 mod near;
 mod vectors;
 
@@ -14,6 +15,7 @@ pub use motions::{
     Force, Frame, Motion, Place, apply, apply_dual, cross, cross_dual, cross_twice, cross3, mul,
     multiple, plus_cross, power, sum_forces, sum_motions, sum_vector,
 };
+pub use narrow::NarrowVec3;
 pub use vectors::{Mat3, Sym3, Vec3};
 
 #[cfg(test)]

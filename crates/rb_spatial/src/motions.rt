@@ -1,14 +1,14 @@
 ghost use Rattle.std.specs.Prelude.{◌≡◌, Ok, IfOk, IfErr, IfSome};
 ghost use Rattle.rb_num.specs.Arith.{intervals};
-ghost use Rattle.rb_frac.specs.Tables.{transpose};
 ghost use Rattle.rb_spatial.specs.Motions.{EnclosesCross3, EnclosesCrossTwice, EnclosesPlusCross, EnclosesMultiple, EnclosesSumVector, EnclosesMul};
 ghost use Rattle.rb_spatial.specs.Motions.{EnclosesApply, EnclosesApplyDual, EnclosesCross, EnclosesCrossDual, EnclosesPower, EnclosesSumSpatial};
 ghost use Rattle.rb_spatial.specs.Motions.{cross3 as cross3_of, cross_twice as cross_twice_of, plus_cross as plus_cross_of, multiple as multiple_of, sum_vector as sum_vector_of, mul as mul_of};
 ghost use Rattle.rb_spatial.specs.Motions.{apply as apply_of, apply_dual as apply_dual_of, cross as cross_of, cross_dual as cross_dual_of, power as power_of, sum_spatial as sum_spatial_of};
 
+use crate::narrow::{NarrowMat3, NarrowVec3};
 use crate::near::{near_dot, near_dots, near_four, near_one, near_three, near_two};
 use crate::vectors::{Mat3, Vec3};
-use rb_num::{Iv, NumFault, dot};
+use rb_num::{Iv, Narrow, NumFault, dot};
 use std::marker::Model;
 
 /// A speed or an acceleration: linear part first.
@@ -100,14 +100,21 @@ pub fn cross3(u: &Vec3, w: &Vec3) -> Result<Vec3, NumFault>
 
 #[inline(always)]
 #[tactic(auto, unfolding(crate::specs::Motions::cross3))]
-fn near_cross3(u: &Vec3, w: &Vec3) -> Option<Vec3>
+fn narrow_cross3(u: &NarrowVec3, w: &NarrowVec3) -> Option<NarrowVec3>
     ensures { IfSome result (λ v. cross3_of intervals u.now w.now ≡ Ok v) }
 {
-    let (u, w) = (u.lend(), w.lend());
     let x = near_two(u.y, w.z, u.z, w.y)?;
     let y = near_two(u.z, w.x, u.x, w.z)?;
     let z = near_two(u.x, w.y, u.y, w.x)?;
-    Some(Vec3::new(x, y, z))
+    Some(NarrowVec3 { x, y, z })
+}
+
+#[inline(always)]
+fn near_cross3(u: &Vec3, w: &Vec3) -> Option<Vec3>
+    ensures { IfSome result (λ v. cross3_of intervals u.now w.now ≡ Ok v) }
+{
+    let product = narrow_cross3(&u.narrow()?, &w.narrow()?)?;
+    Some(product.wide())
 }
 
 #[cold]
@@ -139,15 +146,26 @@ pub fn cross_twice(u: &Vec3, w: &Vec3, s: &Vec3, t: &Vec3) -> Result<Vec3, NumFa
 
 #[inline(always)]
 #[tactic(auto, unfolding(crate::specs::Motions::cross_twice))]
-fn near_cross_twice(u: &Vec3, w: &Vec3, s: &Vec3, t: &Vec3) -> Option<Vec3>
+fn narrow_cross_twice(
+    u: &NarrowVec3,
+    w: &NarrowVec3,
+    s: &NarrowVec3,
+    t: &NarrowVec3,
+) -> Option<NarrowVec3>
     ensures { IfSome result (λ v. cross_twice_of intervals u.now w.now s.now t.now ≡ Ok v) }
 {
-    let (u, w) = (u.lend(), w.lend());
-    let (s, t) = (s.lend(), t.lend());
     let x = near_four(u.y, w.z, u.z, w.y, s.y, t.z, s.z, t.y)?;
     let y = near_four(u.z, w.x, u.x, w.z, s.z, t.x, s.x, t.z)?;
     let z = near_four(u.x, w.y, u.y, w.x, s.x, t.y, s.y, t.x)?;
-    Some(Vec3::new(x, y, z))
+    Some(NarrowVec3 { x, y, z })
+}
+
+#[inline(always)]
+fn near_cross_twice(u: &Vec3, w: &Vec3, s: &Vec3, t: &Vec3) -> Option<Vec3>
+    ensures { IfSome result (λ v. cross_twice_of intervals u.now w.now s.now t.now ≡ Ok v) }
+{
+    let sum = narrow_cross_twice(&u.narrow()?, &w.narrow()?, &s.narrow()?, &t.narrow()?)?;
+    Some(sum.wide())
 }
 
 #[cold]
@@ -194,14 +212,21 @@ pub fn plus_cross(n: &Vec3, u: &Vec3, w: &Vec3) -> Result<Vec3, NumFault>
 
 #[inline(always)]
 #[tactic(auto, unfolding(crate::specs::Motions::plus_cross))]
+fn narrow_plus_cross(n: &NarrowVec3, u: &NarrowVec3, w: &NarrowVec3) -> Option<NarrowVec3>
+    ensures { IfSome result (λ v. plus_cross_of intervals n.now u.now w.now ≡ Ok v) }
+{
+    let x = near_three(n.x, Narrow::ONE, u.y, w.z, u.z, w.y)?;
+    let y = near_three(n.y, Narrow::ONE, u.z, w.x, u.x, w.z)?;
+    let z = near_three(n.z, Narrow::ONE, u.x, w.y, u.y, w.x)?;
+    Some(NarrowVec3 { x, y, z })
+}
+
+#[inline(always)]
 fn near_plus_cross(n: &Vec3, u: &Vec3, w: &Vec3) -> Option<Vec3>
     ensures { IfSome result (λ v. plus_cross_of intervals n.now u.now w.now ≡ Ok v) }
 {
-    let (n, u, w) = (n.lend(), u.lend(), w.lend());
-    let x = near_three(n.x, &Iv::ONE, u.y, w.z, u.z, w.y)?;
-    let y = near_three(n.y, &Iv::ONE, u.z, w.x, u.x, w.z)?;
-    let z = near_three(n.z, &Iv::ONE, u.x, w.y, u.y, w.x)?;
-    Some(Vec3::new(x, y, z))
+    let sum = narrow_plus_cross(&n.narrow()?, &u.narrow()?, &w.narrow()?)?;
+    Some(sum.wide())
 }
 
 #[cold]
@@ -236,11 +261,11 @@ pub fn multiple(k: Iv, v: &Vec3) -> Result<Vec3, NumFault>
 fn near_multiple(k: &Iv, v: &Vec3) -> Option<Vec3>
     ensures { IfSome result (λ w. multiple_of intervals k.now v.now ≡ Ok w) }
 {
-    let v = v.lend();
+    let (k, v) = (k.narrow()?, v.narrow()?);
     let x = near_one(k, v.x)?;
     let y = near_one(k, v.y)?;
     let z = near_one(k, v.z)?;
-    Some(Vec3::new(x, y, z))
+    Some(Vec3::new(x.wide(), y.wide(), z.wide()))
 }
 
 #[cold]
@@ -285,14 +310,21 @@ pub fn mul(t: &Mat3, v: &Vec3) -> Result<Vec3, NumFault>
 
 #[inline(always)]
 #[tactic(auto, unfolding(crate::specs::Motions::mul))]
+fn narrow_mul(t: &NarrowMat3, v: &NarrowVec3) -> Option<NarrowVec3>
+    ensures { IfSome result (λ w. mul_of intervals t.now v.now ≡ Ok w) }
+{
+    let x = near_dot(&t.x, v)?;
+    let y = near_dot(&t.y, v)?;
+    let z = near_dot(&t.z, v)?;
+    Some(NarrowVec3 { x, y, z })
+}
+
+#[inline(always)]
 fn near_mul(t: &Mat3, v: &Vec3) -> Option<Vec3>
     ensures { IfSome result (λ w. mul_of intervals t.now v.now ≡ Ok w) }
 {
-    let v = v.lend();
-    let x = near_dot(&t.row_x(), &v)?;
-    let y = near_dot(&t.row_y(), &v)?;
-    let z = near_dot(&t.row_z(), &v)?;
-    Some(Vec3::new(x, y, z))
+    let product = narrow_mul(&t.narrow()?, &v.narrow()?)?;
+    Some(product.wide())
 }
 
 #[cold]
@@ -307,18 +339,6 @@ fn far_mul(t: &Mat3, v: &Vec3) -> Result<Vec3, NumFault>
     let y = dot(&[(s.x(), v.x()), (s.y(), v.y()), (s.z(), v.z())])?;
     let z = dot(&[(t.x(), v.x()), (t.y(), v.y()), (t.z(), v.z())])?;
     Ok(Vec3::new(x, y, z))
-}
-
-#[inline(always)]
-#[tactic(auto, unfolding(crate::specs::Motions::mul))]
-fn near_mul_turned(t: &Mat3, v: &Vec3) -> Option<Vec3>
-    ensures { IfSome result (λ w. mul_of intervals (transpose t.now) v.now ≡ Ok w) }
-{
-    let v = v.lend();
-    let x = near_dot(&t.column_x(), &v)?;
-    let y = near_dot(&t.column_y(), &v)?;
-    let z = near_dot(&t.column_z(), &v)?;
-    Some(Vec3::new(x, y, z))
 }
 
 /// The parent's motion as the body's: `(e (lin + ang x r), e ang)`. It is refused with `Size`
@@ -340,10 +360,15 @@ pub fn apply(x: &Place, m: &Motion) -> Result<Motion, NumFault>
 fn near_apply(x: &Place, m: &Motion) -> Option<Motion>
     ensures { IfSome result (λ v. apply_of intervals x.now m.now ≡ Ok v) }
 {
-    let t = near_plus_cross(&m.lin, &m.ang, &x.r)?;
-    let lin = near_mul(&x.e, &t)?;
-    let ang = near_mul(&x.e, &m.ang)?;
-    Some(Motion { lin, ang })
+    let (e, r) = (x.e.narrow()?, x.r.narrow()?);
+    let (u, w) = (m.lin.narrow()?, m.ang.narrow()?);
+    let t = narrow_plus_cross(&u, &w, &r)?;
+    let lin = narrow_mul(&e, &t)?;
+    let ang = narrow_mul(&e, &w)?;
+    Some(Motion {
+        lin: lin.wide(),
+        ang: ang.wide(),
+    })
 }
 
 #[cold]
@@ -378,10 +403,14 @@ pub fn apply_dual(x: &Place, f: &Force) -> Result<Force, NumFault>
 fn near_apply_dual(x: &Place, f: &Force) -> Option<Force>
     ensures { IfSome result (λ v. apply_dual_of intervals x.now f.now ≡ Ok v) }
 {
-    let lin = near_mul_turned(&x.e, &f.lin)?;
-    let n = near_mul_turned(&x.e, &f.ang)?;
-    let ang = near_plus_cross(&n, &x.r, &lin)?;
-    Some(Force { lin, ang })
+    let (turn, r) = (x.e.narrow()?.transpose(), x.r.narrow()?);
+    let lin = narrow_mul(&turn, &f.lin.narrow()?)?;
+    let n = narrow_mul(&turn, &f.ang.narrow()?)?;
+    let ang = narrow_plus_cross(&n, &r, &lin)?;
+    Some(Force {
+        lin: lin.wide(),
+        ang: ang.wide(),
+    })
 }
 
 #[cold]
@@ -418,9 +447,14 @@ pub fn cross(a: &Motion, b: &Motion) -> Result<Motion, NumFault>
 fn near_cross(a: &Motion, b: &Motion) -> Option<Motion>
     ensures { IfSome result (λ v. cross_of intervals a.now b.now ≡ Ok v) }
 {
-    let lin = near_cross_twice(&a.ang, &b.lin, &a.lin, &b.ang)?;
-    let ang = near_cross3(&a.ang, &b.ang)?;
-    Some(Motion { lin, ang })
+    let (s, t) = (a.lin.narrow()?, a.ang.narrow()?);
+    let (u, w) = (b.lin.narrow()?, b.ang.narrow()?);
+    let lin = narrow_cross_twice(&t, &u, &s, &w)?;
+    let ang = narrow_cross3(&t, &w)?;
+    Some(Motion {
+        lin: lin.wide(),
+        ang: ang.wide(),
+    })
 }
 
 #[cold]
@@ -455,9 +489,14 @@ pub fn cross_dual(a: &Motion, f: &Force) -> Result<Force, NumFault>
 fn near_cross_dual(a: &Motion, f: &Force) -> Option<Force>
     ensures { IfSome result (λ v. cross_dual_of intervals a.now f.now ≡ Ok v) }
 {
-    let lin = near_cross3(&a.ang, &f.lin)?;
-    let ang = near_cross_twice(&a.ang, &f.ang, &a.lin, &f.lin)?;
-    Some(Force { lin, ang })
+    let (s, t) = (a.lin.narrow()?, a.ang.narrow()?);
+    let (u, w) = (f.lin.narrow()?, f.ang.narrow()?);
+    let lin = narrow_cross3(&t, &u)?;
+    let ang = narrow_cross_twice(&t, &w, &s, &u)?;
+    Some(Force {
+        lin: lin.wide(),
+        ang: ang.wide(),
+    })
 }
 
 #[cold]
@@ -491,7 +530,10 @@ pub fn power(m: &Motion, f: &Force) -> Result<Iv, NumFault>
 fn near_power(m: &Motion, f: &Force) -> Option<Iv>
     ensures { IfSome result (λ v. power_of intervals m.now f.now ≡ Ok v) }
 {
-    near_dots(&m.lin.lend(), &f.lin.lend(), &m.ang.lend(), &f.ang.lend())
+    let (u, w) = (m.lin.narrow()?, m.ang.narrow()?);
+    let (p, q) = (f.lin.narrow()?, f.ang.narrow()?);
+    let power = near_dots(&u, &p, &w, &q)?;
+    Some(power.wide())
 }
 
 #[cold]

@@ -1,26 +1,10 @@
-ghost use Rattle.std.specs.Prelude.{◌≡◌, ◌<◌};
+ghost use Rattle.std.specs.Prelude.{◌≡◌, ◌<◌, IfSome};
 ghost use Rattle.rb_num.specs.Arith.{intervals, signs_of};
 ghost use Rattle.rb_frac.specs.Tables.{transpose as transpose_of, full as full_of, component as component_of, row as row_of, cross_table as cross_table_of};
 
+use crate::narrow::{NarrowMat3, NarrowSym3, NarrowVec3};
 use rb_num::Iv;
 use std::marker::Model;
-
-/// Three intervals where they stand: the parts of a vector, or a row or a column of a table.
-#[derive(Drop)]
-pub(crate) struct Lent<'a> {
-    pub(crate) x: &'a Iv,
-    pub(crate) y: &'a Iv,
-    pub(crate) z: &'a Iv,
-}
-
-impl<'a> Model for Lent<'a> {
-    ghost use Rattle.rb_frac.specs.Ops.{V3};
-    ghost use Rattle.rb_num.specs.Interval.{Interval};
-
-    ghost Value = { V3 Interval };
-
-    ghost view = { λ a. record { x = a.x.now; y = a.y.now; z = a.z.now } };
-}
 
 /// A vector of three intervals.
 #[derive(Clone, Copy, Debug, PartialEq, Eq)]
@@ -77,13 +61,17 @@ impl Vec3 {
         self.0[2]
     }
 
-    /// The parts where they stand.
+    /// The same vector, where its parts are narrow.
     #[inline(always)]
-    pub(crate) fn lend(&self) -> Lent<'_>
-        ensures { result ≡ self.now }
+    pub fn narrow(&self) -> Option<NarrowVec3>
+        ensures { IfSome result (λ v. v ≡ self.now) }
     {
         let [x, y, z] = &self.0;
-        Lent { x, y, z }
+        Some(NarrowVec3 {
+            x: x.narrow()?,
+            y: y.narrow()?,
+            z: z.narrow()?,
+        })
     }
 
     /// Component `k`, from 0.
@@ -192,76 +180,16 @@ impl Mat3 {
         Vec3(self.0[2])
     }
 
-    /// The first row where it stands.
+    /// The same table, where its entries are narrow.
     #[inline(always)]
-    pub(crate) fn row_x(&self) -> Lent<'_>
-        ensures { result ≡ self.now.x }
+    pub(crate) fn narrow(&self) -> Option<NarrowMat3>
+        ensures { IfSome result (λ t. t ≡ self.now) }
     {
-        Lent {
-            x: &self.0[0][0],
-            y: &self.0[0][1],
-            z: &self.0[0][2],
-        }
-    }
-
-    /// The second row where it stands.
-    #[inline(always)]
-    pub(crate) fn row_y(&self) -> Lent<'_>
-        ensures { result ≡ self.now.y }
-    {
-        Lent {
-            x: &self.0[1][0],
-            y: &self.0[1][1],
-            z: &self.0[1][2],
-        }
-    }
-
-    /// The third row where it stands.
-    #[inline(always)]
-    pub(crate) fn row_z(&self) -> Lent<'_>
-        ensures { result ≡ self.now.z }
-    {
-        Lent {
-            x: &self.0[2][0],
-            y: &self.0[2][1],
-            z: &self.0[2][2],
-        }
-    }
-
-    /// The first column where it stands.
-    #[inline(always)]
-    pub(crate) fn column_x(&self) -> Lent<'_>
-        ensures { result ≡ (transpose_of self.now).x }
-    {
-        Lent {
-            x: &self.0[0][0],
-            y: &self.0[1][0],
-            z: &self.0[2][0],
-        }
-    }
-
-    /// The second column where it stands.
-    #[inline(always)]
-    pub(crate) fn column_y(&self) -> Lent<'_>
-        ensures { result ≡ (transpose_of self.now).y }
-    {
-        Lent {
-            x: &self.0[0][1],
-            y: &self.0[1][1],
-            z: &self.0[2][1],
-        }
-    }
-
-    /// The third column where it stands.
-    #[inline(always)]
-    pub(crate) fn column_z(&self) -> Lent<'_>
-        ensures { result ≡ (transpose_of self.now).z }
-    {
-        Lent {
-            x: &self.0[0][2],
-            y: &self.0[1][2],
-            z: &self.0[2][2],
-        }
+        Some(NarrowMat3 {
+            x: self.x().narrow()?,
+            y: self.y().narrow()?,
+            z: self.z().narrow()?,
+        })
     }
 
     /// Row `k`, from 0.
@@ -326,39 +254,18 @@ impl Sym3 {
         )
     }
 
-    /// The first row of the nine entries where it stands.
+    /// The same table, where its entries are narrow.
     #[inline(always)]
-    pub(crate) fn row_x(&self) -> Lent<'_>
-        ensures { result ≡ (full_of self.now).x }
+    pub(crate) fn narrow(&self) -> Option<NarrowSym3>
+        ensures { IfSome result (λ s. s ≡ self.now) }
     {
-        Lent {
-            x: &self.xx,
-            y: &self.xy,
-            z: &self.xz,
-        }
-    }
-
-    /// The second row where it stands.
-    #[inline(always)]
-    pub(crate) fn row_y(&self) -> Lent<'_>
-        ensures { result ≡ (full_of self.now).y }
-    {
-        Lent {
-            x: &self.xy,
-            y: &self.yy,
-            z: &self.yz,
-        }
-    }
-
-    /// The third row where it stands.
-    #[inline(always)]
-    pub(crate) fn row_z(&self) -> Lent<'_>
-        ensures { result ≡ (full_of self.now).z }
-    {
-        Lent {
-            x: &self.xz,
-            y: &self.yz,
-            z: &self.zz,
-        }
+        Some(NarrowSym3 {
+            xx: self.xx.narrow()?,
+            xy: self.xy.narrow()?,
+            xz: self.xz.narrow()?,
+            yy: self.yy.narrow()?,
+            yz: self.yz.narrow()?,
+            zz: self.zz.narrow()?,
+        })
     }
 }

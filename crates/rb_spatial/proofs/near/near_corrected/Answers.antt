@@ -8,7 +8,7 @@ use Rattle.rb_spatial.proofs.near.near_corrected.Goals as goal
 
 pub returns : goal.returns
 returns c =
-    let last = c.in_ok-less-3.ensures.sums _ (c.in_ok-less-2.ensures.sums _ (c.in_ok-less.ensures.sums _ c.none.ensures.sums)) in
-    let rest = c.in_ok-with-3.ensures.sums _ (c.in_ok-with-2.ensures.sums _ (c.in_ok-with.ensures.sums _ last)) in
-    let found = c.sum.ensures.sum _ (c.in_ok-with-4.ensures.sums _ rest) in
-    seen_four (λ (u p w q : V3 Interval). IfSome c.sum.result (λ v. corrected intervals c.args.c.now u p w q ≡ Ok v)) c.u.view_is c.p.view_is c.w.view_is c.q.view_is found
+    let last = c.less-3.ensures.sums _ (c.less-2.ensures.sums _ (c.less.ensures.sums _ c.none.ensures.sums)) in
+    let rest = c.with-3.ensures.sums _ (c.with-2.ensures.sums _ (c.with.ensures.sums _ last)) in
+    let found = c.sum.ensures.sum _ (c.with-4.ensures.sums _ rest) in
+    seen_four (λ (u p w q : V3 Interval). IfSome c.sum.result (λ v. corrected intervals c.args.c u p w q ≡ Ok v)) c.u.view_is c.p.view_is c.w.view_is c.q.view_is found

@@ -8,5 +8,5 @@ use Rattle.rb_spatial.proofs.near.near_dot.Goals as goal
 
 pub returns : goal.returns
 returns c =
-    let found = c.sum.ensures.sum _ (c.in_ok-with-3.ensures.sums _ (c.in_ok-with-2.ensures.sums _ (c.in_ok-with.ensures.sums _ c.none.ensures.sums))) in
+    let found = c.sum.ensures.sum _ (c.with-3.ensures.sums _ (c.with-2.ensures.sums _ (c.with.ensures.sums _ c.none.ensures.sums))) in
     seen_two (λ (u w : V3 Interval). IfSome c.sum.result (λ v. iv_dot (pairs u w) ≡ Ok v)) c.u.view_is c.w.view_is found

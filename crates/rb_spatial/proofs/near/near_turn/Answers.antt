@@ -8,5 +8,5 @@ use Rattle.rb_spatial.proofs.near.near_turn.Goals as goal
 
 pub returns : goal.returns
 returns c =
-    let row = c.in_ok-with-3.ensures.sums _ (c.in_ok-with-2.ensures.sums _ (c.in_ok-with.ensures.sums _ c.none.ensures.sums)) in
-    seen_two (λ (d w : V3 Interval). IfSome c.sum.result (λ v. iv_dot ((c.args.p.now, c.args.q.now) ∷ (negative_of c.args.r.now, c.args.s.now) ∷ pairs d w) ≡ Ok v)) c.c.view_is c.w.view_is (c.sum.ensures.sum _ (c.in_ok-with-4.ensures.sums _ (c.in_ok-less.ensures.sums _ row)))
+    let row = c.with-3.ensures.sums _ (c.with-2.ensures.sums _ (c.with.ensures.sums _ c.none.ensures.sums)) in
+    seen_two (λ (d w : V3 Interval). IfSome c.sum.result (λ v. iv_dot ((c.args.p, c.args.q) ∷ (negative_of c.args.r, c.args.s) ∷ pairs d w) ≡ Ok v)) c.c.view_is c.w.view_is (c.sum.ensures.sum _ (c.with-4.ensures.sums _ (c.less.ensures.sums _ row)))
