@@ -1,11 +1,11 @@
 -- Sums of products, pair by pair.
-use Rattle.std.proofs.Common.{◌≡◌, ℕ, ℤ, pos, neg_ℤ, ◌+◌, ◌-◌, ◌<◌, ◌+ℤ◌, ◌-ℤ◌, ◌*ℤ◌, ◌≤ℤ◌, ◌<ℤ◌, ◌^◌, List, ◌∷◌, arith, ap, sym, subst, refl, ◌∙◌, to_z, of_z, Ok}
+use Rattle.std.proofs.Common.{◌≡◌, ℕ, ℤ, pos, neg_ℤ, ◌+◌, ◌-◌, ◌<◌, ◌+ℤ◌, ◌-ℤ◌, ◌*ℤ◌, ◌≤ℤ◌, ◌^◌, List, ◌∷◌, arith, ap, sym, subst, refl, ◌∙◌, to_z, of_z, Ok}
 use Rattle.std.proofs.lemmas.Int.{ints, clamps, to_z-of_z}
 use Rattle.std.proofs.lemmas.List.Elements.{All-cons}
 use mir.Syntax.{w64, w128}
 use mir.Val.{SFits}
 use Rattle.rb_frac.proofs.Whole.{neg-mul}
-use Rattle.rb_num.specs.Interval.{Interval, IsInterval, IsWithin, interval, grid, limit, negative_of}
+use Rattle.rb_num.specs.Interval.{Interval, IsInterval, IsWithin, interval, grid, negative_of}
 use Rattle.rb_num.specs.Dot.{least_product, greatest_product, ProductsFit, floor_of, ceil_of, int_sum_by, iv_dot, dot_of}
 use Rattle.rb_num.specs.Narrow.{IsNarrow}
 use Rattle.rb_num.specs.Reciprocal.{IsNear}

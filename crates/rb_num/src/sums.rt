@@ -1,12 +1,12 @@
 //! Sums of products of narrow intervals, pair by pair: no product is tested, and nothing is divided.
 
 ghost use Rattle.std.specs.Prelude.{◌≡◌, ◌<◌, [], ◌∷◌, List, Ok, IfSome, SomeIff};
-ghost use Rattle.rb_num.specs.Interval.{Interval, negative_of};
+ghost use Rattle.rb_num.specs.Interval.{Interval, negative_of, one_interval};
 ghost use Rattle.rb_num.specs.declared.interval.TheConstants.{MAX_PAIRS};
 ghost use Rattle.rb_num.specs.Dot.{iv_dot};
 ghost use Rattle.rb_num.specs.Sums.{AreSums, AreNear, plus, rounded};
 
-use crate::narrow::{Ends, Narrow, product_ends};
+use crate::narrow::{Ends, Narrow, by_one, product_ends};
 use crate::rounding::BY_GRID;
 use std::marker::Model;
 
@@ -71,6 +71,21 @@ impl Sums {
         Sums {
             low: self.low - greatest,
             high: self.high - least,
+            count: self.count + 1,
+        }
+    }
+
+    /// Those of one more pair, in front, of `a` and one.
+    #[inline(always)]
+    pub fn plus(self, a: Narrow) -> Sums
+        requires { self.count < MAX_PAIRS }
+        ensures exact { result ≡ plus (a, one_interval) self }
+        ensures sums { (pairs : List (Interval × Interval)) → AreSums pairs self → AreSums ((a, one_interval) ∷ pairs) result }
+    {
+        let (least, greatest) = (by_one(a.0.lo), by_one(a.0.hi));
+        Sums {
+            low: least + self.low,
+            high: greatest + self.high,
             count: self.count + 1,
         }
     }

@@ -6,9 +6,9 @@ ghost use Rattle.rb_spatial.specs.Motions.{cross3 as cross3_of, cross_twice as c
 ghost use Rattle.rb_spatial.specs.Motions.{apply as apply_of, apply_dual as apply_dual_of, cross as cross_of, cross_dual as cross_dual_of, power as power_of, sum_spatial as sum_spatial_of};
 
 use crate::narrow::{NarrowMat3, NarrowVec3};
-use crate::near::{near_dot, near_dots, near_four, near_one, near_three, near_two};
+use crate::near::{near_dot, near_dots, near_four, near_one, near_plus_two, near_two};
 use crate::vectors::{Mat3, Vec3};
-use rb_num::{Iv, Narrow, NumFault, dot};
+use rb_num::{Iv, NumFault, dot};
 use std::marker::Model;
 
 /// A speed or an acceleration: linear part first.
@@ -215,9 +215,9 @@ pub fn plus_cross(n: &Vec3, u: &Vec3, w: &Vec3) -> Result<Vec3, NumFault>
 fn narrow_plus_cross(n: &NarrowVec3, u: &NarrowVec3, w: &NarrowVec3) -> Option<NarrowVec3>
     ensures { IfSome result (λ v. plus_cross_of intervals n.now u.now w.now ≡ Ok v) }
 {
-    let x = near_three(n.x, Narrow::ONE, u.y, w.z, u.z, w.y)?;
-    let y = near_three(n.y, Narrow::ONE, u.z, w.x, u.x, w.z)?;
-    let z = near_three(n.z, Narrow::ONE, u.x, w.y, u.y, w.x)?;
+    let x = near_plus_two(n.x, u.y, w.z, u.z, w.y)?;
+    let y = near_plus_two(n.y, u.z, w.x, u.x, w.z)?;
+    let z = near_plus_two(n.z, u.x, w.y, u.y, w.x)?;
     Some(NarrowVec3 { x, y, z })
 }
 

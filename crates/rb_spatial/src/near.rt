@@ -1,6 +1,6 @@
 //! Sums of products where all intervals are narrow. `None` says no more than that `dot` has to find the sum.
 ghost use Rattle.std.specs.Prelude.{◌≡◌, [], ◌∷◌, Ok, IfSome};
-ghost use Rattle.rb_num.specs.Interval.{negative_of};
+ghost use Rattle.rb_num.specs.Interval.{negative_of, one_interval};
 ghost use Rattle.rb_num.specs.Dot.{iv_dot};
 ghost use Rattle.rb_num.specs.Arith.{intervals};
 ghost use Rattle.rb_spatial.specs.Motions.{pairs, six_pairs};
@@ -95,6 +95,14 @@ pub(crate) fn near_three(
     Sums::none().less(r, s).with(p, q).with(m, l).sum()
 }
 
+/// `n + p q - r s`
+#[inline(always)]
+pub(crate) fn near_plus_two(n: Narrow, p: Narrow, q: Narrow, r: Narrow, s: Narrow) -> Option<Narrow>
+    ensures { IfSome result (λ v. iv_dot ((n, one_interval) ∷ (p, q) ∷ (negative_of r, s) ∷ []) ≡ Ok v) }
+{
+    Sums::none().less(r, s).with(p, q).plus(n).sum()
+}
+
 /// `m l - p q + r s`
 #[inline(always)]
 pub(crate) fn near_three_back(
@@ -157,7 +165,7 @@ pub(crate) fn near_turn_back(
 pub(crate) fn near_less(i: Narrow, u: Narrow, w: Narrow) -> Option<Narrow>
     ensures { IfSome result (λ v. less intervals i u w ≡ Ok v) }
 {
-    Sums::none().less(u, w).with(i, Narrow::ONE).sum()
+    Sums::none().less(u, w).plus(i).sum()
 }
 
 /// `b - v w`
@@ -169,7 +177,7 @@ pub(crate) fn near_less_dot(b: Narrow, v: &NarrowVec3, w: &NarrowVec3) -> Option
         .less(v.z, w.z)
         .less(v.y, w.y)
         .less(v.x, w.x)
-        .with(b, Narrow::ONE)
+        .plus(b)
         .sum()
 }
 
@@ -191,6 +199,6 @@ pub(crate) fn near_corrected(
         .with(u.z, p.z)
         .with(u.y, p.y)
         .with(u.x, p.x)
-        .with(c, Narrow::ONE)
+        .plus(c)
         .sum()
 }

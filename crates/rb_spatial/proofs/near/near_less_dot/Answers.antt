@@ -10,5 +10,5 @@ use Rattle.rb_spatial.proofs.near.near_less_dot.Goals as goal
 pub returns : goal.returns
 returns c =
     let last = c.less-3.ensures.sums _ (c.less-2.ensures.sums _ (c.less.ensures.sums _ c.none.ensures.sums)) in
-    let found = c.sum.ensures.sum _ (c.with.ensures.sums _ last) in
+    let found = c.sum.ensures.sum _ (c.plus.ensures.sums _ last) in
     seen_two (λ (v w : V3 Interval). IfSome c.sum.result (λ r. iv_dot (less_pairs intervals c.args.b v w) ≡ Ok r)) c.v.view_is c.w.view_is found
