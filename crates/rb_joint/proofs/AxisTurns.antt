@@ -1,5 +1,5 @@
 -- Turns about the coordinate axes: the rule of any axis gives the cosine and the sine themselves.
-use Rattle.std.proofs.Common.{◌≡◌, Option, IfSome, [], ◌∷◌, Result, Ok, refl, sym, ap, ◌∙◌, arith}
+use Rattle.std.proofs.Common.{◌≡◌, [], ◌∷◌, Result, Ok, refl, sym, ap, ◌∙◌, arith}
 use Rattle.std.proofs.lemmas.Int.{ints}
 use Rattle.rb_frac.specs.Ops.{V3}
 use Rattle.rb_frac.specs.Tables.{Table, Symmetric, vector, transpose, nothing}
@@ -241,12 +241,3 @@ pub lone_product : (a v : V3 Interval) (k : Coordinate) (w x : Interval) (r : Re
     → r ≡ iv_dot ((w, x) ∷ [])
     → r ≡ iv_dot (pairs a v)
 lone_product a v k w x r ea ex e = e ∙ ap (λ (y : Interval). iv_dot ((w, y) ∷ [])) ex ∙ lone_pairs k w v ∙ ap (λ (b : V3 Interval). iv_dot (pairs b v)) (sym ea)
-
-pub pairs_some : (u w : V3 Interval) (r : Option Interval) (ux uy uz wx wy wz : Interval) → ux ≡ u.x → uy ≡ u.y → uz ≡ u.z → wx ≡ w.x → wy ≡ w.y → wz ≡ w.z
-    → IfSome r (λ v. iv_dot ((ux, wx) ∷ (uy, wy) ∷ (uz, wz) ∷ []) ≡ Ok v) → IfSome r (λ v. iv_dot (pairs u w) ≡ Ok v)
-pairs_some u w r ux uy uz wx wy wz a b c d e f h = rw (← a, ← b, ← c, ← d, ← e, ← f) h
-
-pub more_pairs_some : (x : Interval × Interval) (u w : V3 Interval) (r : Option Interval) (ux uy uz wx wy wz : Interval) → ux ≡ u.x → uy ≡ u.y
-    → uz ≡ u.z → wx ≡ w.x → wy ≡ w.y → wz ≡ w.z
-    → IfSome r (λ v. iv_dot (x ∷ (ux, wx) ∷ (uy, wy) ∷ (uz, wz) ∷ []) ≡ Ok v) → IfSome r (λ v. iv_dot (x ∷ pairs u w) ≡ Ok v)
-more_pairs_some x u w r ux uy uz wx wy wz a b c d e f h = rw (← a, ← b, ← c, ← d, ← e, ← f) h

@@ -11,8 +11,8 @@ use crate::any::AnyJoint;
 use crate::exact::{part_times, times_one, times_part};
 use crate::level::{lone_part, part_along};
 use crate::model::JointModel;
-use rb_num::{Iv, NumFault, Sums, dot};
-use rb_spatial::{Force, Motion, Vec3};
+use rb_num::{Iv, NumFault, dot};
+use rb_spatial::{Force, Motion, Vec3, near_dot};
 
 pub(crate) fn nothing() -> Vec3
     ensures { result ≡ nothing_of (signs_of intervals) }
@@ -101,11 +101,8 @@ fn motion_free(rates: &[Iv]) -> Result<Motion, NumFault>
 fn near_product(u: &Vec3, w: &Vec3) -> Option<Iv>
     ensures { IfSome result (λ v. iv_dot (pairs u.now w.now) ≡ Ok v) }
 {
-    Sums::none()
-        .with(&u.z(), &w.z())?
-        .with(&u.y(), &w.y())?
-        .with(&u.x(), &w.x())?
-        .sum()
+    let product = near_dot(&u.narrow()?, &w.narrow()?)?;
+    Some(product.wide())
 }
 
 #[cold]

@@ -5,17 +5,15 @@ ghost use Rattle.rb_num.specs.Narrow.{IsNarrow};
 ghost use Rattle.rb_num.specs.Dot.{iv_dot};
 ghost use Rattle.rb_joint.specs.Level.{IsNarrowVector};
 
-use rb_num::{Iv, NumFault, S, Sums, dot};
-use rb_spatial::Vec3;
+use rb_num::{Iv, NumFault, S, dot};
+use rb_spatial::{Vec3, near_one};
 
-// An interval is narrow where its ends are at most 2^60 units in size: its product with one is within the limit.
-const NARROW: i128 = 1 << 60;
-
+// Whether its product with one is within the limit.
 #[inline(always)]
 pub(crate) fn is_narrow(v: &Iv) -> bool
     ensures { IsTrue result ↔ IsNarrow v.now.lo v.now.hi }
 {
-    -NARROW <= v.lo() && v.hi() <= NARROW
+    v.narrow().is_some()
 }
 
 #[inline(always)]
@@ -37,7 +35,8 @@ pub(crate) fn is_exactly(v: &Iv, end: i128) -> bool
 fn near_product(a: &Iv, b: &Iv) -> Option<Iv>
     ensures { IfSome result (λ v. iv_dot ((a.now, b.now) ∷ []) ≡ Ok v) }
 {
-    Sums::none().with(a, b)?.sum()
+    let product = near_one(a.narrow()?, b.narrow()?)?;
+    Some(product.wide())
 }
 
 #[cold]

@@ -9,7 +9,7 @@ ghost use Rattle.rb_joint.specs.Level.{along, level_table, IsLone, IsLevel, IsPl
 
 use crate::exact::{is_exactly, is_narrow, is_narrow_vector};
 use crate::turns::SineCosine;
-use rb_num::{Iv, S, Sums};
+use rb_num::{Iv, Narrow, S, Sums};
 use rb_spatial::{Frame, Mat3, Place, Vec3};
 
 /// A coordinate axis.
@@ -91,15 +91,25 @@ fn level_turn(a: &Vec3, t: &SineCosine) -> Option<LevelTurn>
     }
 }
 
+// `u c + v s`
+#[inline(always)]
+fn near_pair(u: Narrow, c: Narrow, v: Narrow, s: Narrow) -> Option<Narrow>
+    ensures { IfSome result (λ x. iv_dot ((u, c) ∷ (v, s) ∷ []) ≡ Ok x) }
+{
+    Sums::none().with(v, s).with(u, c).sum()
+}
+
 // `u c + v s` and `u l + v c`
 #[inline(always)]
 fn across(u: &Iv, v: &Iv, c: &Iv, s: &Iv, l: &Iv) -> Option<(Iv, Iv)>
     ensures first { IfSome result (λ p. iv_dot ((u.now, c.now) ∷ (v.now, s.now) ∷ []) ≡ Ok p.0) }
     ensures second { IfSome result (λ p. iv_dot ((u.now, l.now) ∷ (v.now, c.now) ∷ []) ≡ Ok p.1) }
 {
-    let first = Sums::none().with(v, s)?.with(u, c)?.sum()?;
-    let second = Sums::none().with(v, c)?.with(u, l)?.sum()?;
-    Some((first, second))
+    let (u, v) = (u.narrow()?, v.narrow()?);
+    let (c, s, l) = (c.narrow()?, s.narrow()?, l.narrow()?);
+    let first = near_pair(u, c, v, s)?;
+    let second = near_pair(u, l, v, c)?;
+    Some((first.wide(), second.wide()))
 }
 
 impl LevelTurn {

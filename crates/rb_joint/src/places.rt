@@ -8,19 +8,27 @@ ghost use Rattle.rb_joint.specs.Places.{outside as outside_of, place_of as place
 ghost use Rattle.rb_joint.specs.Places.{EnclosesOutside, EnclosesPlaceOf, EnclosesPlaceShifted};
 
 use crate::exact::is_narrow_vector;
-use rb_num::{Iv, NumFault, Sums, dot};
-use rb_spatial::{Frame, Mat3, Place, Vec3, product};
+use rb_num::{Iv, Narrow, NumFault, Sums, dot};
+use rb_spatial::{Frame, Mat3, NarrowVec3, Place, Vec3, product};
+
+#[inline(always)]
+fn narrow_sum(at: Narrow, u: &NarrowVec3, p: &NarrowVec3) -> Option<Narrow>
+    ensures { IfSome result (λ v. iv_dot ((at, one_interval) ∷ pairs u.now p.now) ≡ Ok v) }
+{
+    Sums::none()
+        .with(u.z, p.z)
+        .with(u.y, p.y)
+        .with(u.x, p.x)
+        .plus(at)
+        .sum()
+}
 
 #[inline(always)]
 fn near_sum(at: &Iv, u: &Vec3, p: &Vec3) -> Option<Iv>
     ensures { IfSome result (λ v. iv_dot ((at.now, one_interval) ∷ pairs u.now p.now) ≡ Ok v) }
 {
-    Sums::none()
-        .with(&u.z(), &p.z())?
-        .with(&u.y(), &p.y())?
-        .with(&u.x(), &p.x())?
-        .with(at, &Iv::ONE)?
-        .sum()
+    let sum = narrow_sum(at.narrow()?, &u.narrow()?, &p.narrow()?)?;
+    Some(sum.wide())
 }
 
 #[cold]

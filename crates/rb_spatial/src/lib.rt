@@ -16,6 +16,7 @@ pub use motions::{
     multiple, plus_cross, power, sum_forces, sum_motions, sum_vector,
 };
 pub use narrow::NarrowVec3;
+pub use near::{near_dot, near_one};
 pub use vectors::{Mat3, Sym3, Vec3};
 
 #[cfg(test)]

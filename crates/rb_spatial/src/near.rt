@@ -10,9 +10,9 @@ ghost use Rattle.rb_spatial.specs.Carrying.{less_pairs, corrected};
 use crate::narrow::NarrowVec3;
 use rb_num::{Narrow, Sums};
 
-/// `p q`
+/// `p q`, where the product is near: `None` says no more than that `dot` has to find it.
 #[inline(always)]
-pub(crate) fn near_one(p: Narrow, q: Narrow) -> Option<Narrow>
+pub fn near_one(p: Narrow, q: Narrow) -> Option<Narrow>
     ensures { IfSome result (λ v. iv_dot ((p, q) ∷ []) ≡ Ok v) }
 {
     Sums::none().with(p, q).sum()
@@ -48,9 +48,9 @@ pub(crate) fn near_four(
         .sum()
 }
 
-/// `u w`
+/// `u w`, where the sum is near: `None` says no more than that `dot` has to find it.
 #[inline(always)]
-pub(crate) fn near_dot(u: &NarrowVec3, w: &NarrowVec3) -> Option<Narrow>
+pub fn near_dot(u: &NarrowVec3, w: &NarrowVec3) -> Option<Narrow>
     ensures { IfSome result (λ v. iv_dot (pairs u.now w.now) ≡ Ok v) }
 {
     Sums::none()
