@@ -2,26 +2,15 @@
 
 ghost use Rattle.std.specs.Prelude.{◌≡◌, ◌≤◌, IfErr, OnOk};
 ghost use Rattle.rb_num.specs.Interval.{negative_of};
-ghost use Rattle.rb_num.specs.declared.interval.NumFault.{NumFault};
 ghost use Rattle.rb_sweep.specs.Sweep.{Answers, sweep};
 ghost use Rattle.rb_work.specs.Path.{IsOn};
 ghost use Rattle.rb_work.specs.View.{columns_of};
-ghost use Rattle.rb_factor.specs.Steps.{with_product};
 ghost use Rattle.rb_factor.specs.Factor.{HoldsFactors, RefusesFactor};
 ghost use Rattle.rb_factor.specs.Laws.{EnclosesFactors};
 ghost use Rattle.rb_factor.specs.Sweeps.{update_step, updates_of, entry_step, entries_of, column_step, factor_of};
 
-use rb_num::{Iv, NumFault, dot};
+use rb_num::Iv;
 use rb_work::{Capitals, Name, NameKind, RowFault, Work, named, pivot};
-
-// a, and the product of m and b added.
-#[inline]
-pub(crate) fn with_product(a: Iv, m: Iv, b: Iv) -> Result<Iv, NumFault>
-    ensures exact { result ≡ with_product a m b }
-    ensures size { IfErr result (λ e. e ≡ NumFault.Size) }
-{
-    dot(&[(a, Iv::ONE), (m, b)])
-}
 
 // The entry of d and e is lessened by that of c and e.
 #[tactic(auto, unfolding(crate::specs::Sweeps::update_step))]
@@ -34,7 +23,7 @@ fn lessen_entry(c: u32, d: u32, m: Iv, e: u32, work: &mut Work) -> Result<(), Ro
     ensures others { work.new ≡ record work.old { packed = work.new.packed } }
 {
     let r = named(
-        with_product(work.L(d, e), m, work.L(c, e)),
+        work.L(d, e).plus_product(m, work.L(c, e)),
         Name::two(NameKind::L, c, d),
     )?;
     work.set_L(d, e, r);

@@ -10,7 +10,6 @@ ghost use Rattle.rb_factor.specs.Solve.{HoldsReduced, HoldsDivided, HoldsSubstit
 ghost use Rattle.rb_factor.specs.Laws.{EnclosesReduced, EnclosesDivided, EnclosesSubstituted, EnclosesSolution};
 ghost use Rattle.rb_factor.specs.Sweeps.{take_step, reduce_step, reduce_of, divide_step, divide_of, part_step, part_of, substitute_step, substitute_of};
 
-use crate::factors::with_product;
 use rb_num::{Iv, NumFault};
 use rb_work::{Capitals, Name, NameKind, RowFault, Work, named};
 
@@ -24,7 +23,7 @@ fn lessen_number(c: u32, own: Iv, d: u32, work: &mut Work) -> Result<(), RowFaul
     ensures others { work.new ≡ record work.old { w = work.new.w } }
 {
     let m = work.L(c, d).neg();
-    let r = named(with_product(work.w(d), m, own), Name::one(NameKind::w, c))?;
+    let r = named(work.w(d).plus_product(m, own), Name::one(NameKind::w, c))?;
     work.set_w(d, r);
     Ok(())
 }
@@ -98,7 +97,7 @@ fn number_left(c: u32, work: &Work) -> Result<Iv, NumFault>
     let mut part = work.z(c);
     let mut d = work.up(c);
     while d != 0 {
-        part = with_product(part, work.L(c, d).neg(), work.x(d))?;
+        part = part.plus_product(work.L(c, d).neg(), work.x(d))?;
         d = work.up(d);
     }
     Ok(part)

@@ -1,6 +1,6 @@
-ghost use Rattle.std.specs.Prelude.{◌≡◌, ℤ, pos, ◌≤ℤ◌, ◌*ℤ◌, ◌≤◌, ◌↔◌, IsTrue, IsSome, IfOk, IfErr, IfSome, OkIff, SomeIff, ◌≢◌, length, Result, Ok, Err};
+ghost use Rattle.std.specs.Prelude.{◌≡◌, ℤ, pos, ◌≤ℤ◌, ◌*ℤ◌, ◌≤◌, ◌↔◌, IsTrue, IsSome, IfOk, IfErr, IfSome, OkIff, SomeIff, ◌≢◌, length, [], ◌∷◌, Result, Ok, Err};
 ghost use Rattle.rb_num.specs.declared.interval.TheConstants.{MAX_PAIRS};
-ghost use Rattle.rb_num.specs.Interval.{Interval, IsInterval, IsWithin, EndsFit, grid, interval, sum_of, difference_of, negative_of};
+ghost use Rattle.rb_num.specs.Interval.{Interval, IsInterval, IsWithin, EndsFit, grid, interval, one_interval, sum_of, difference_of, negative_of};
 ghost use Rattle.std.specs.Int.{int_min, int_max};
 ghost use Rattle.rb_num.specs.Divisor.{IsDivisor};
 ghost use Rattle.rb_num.specs.Narrow.{IsNarrow};
@@ -232,6 +232,31 @@ pub fn dot(pairs: &[(Iv, Iv)]) -> Result<Iv, NumFault>
     }
 }
 
+// `a + m b`
+#[inline(always)]
+fn narrow_plus_product(a: Narrow, m: Narrow, b: Narrow) -> Option<Narrow>
+    ensures { IfSome result (λ v. iv_dot ((a, one_interval) ∷ (m, b) ∷ []) ≡ Ok v) }
+{
+    Sums::none().with(m, b).plus(a).sum()
+}
+
+#[inline(always)]
+fn near_plus_product(a: Iv, m: Iv, b: Iv) -> Option<Iv>
+    ensures { IfSome result (λ v. iv_dot ((a, one_interval) ∷ (m, b) ∷ []) ≡ Ok v) }
+{
+    let sum = narrow_plus_product(a.narrow()?, m.narrow()?, b.narrow()?)?;
+    Some(sum.wide())
+}
+
+#[cold]
+#[inline(never)]
+fn far_plus_product(a: Iv, m: Iv, b: Iv) -> Result<Iv, NumFault>
+    ensures exact { result ≡ iv_dot ((a, one_interval) ∷ (m, b) ∷ []) }
+    ensures fault { IfErr result (λ e. e ≡ NumFault.Size) }
+{
+    dot(&[(a, Iv::ONE), (m, b)])
+}
+
 impl Iv {
     /// Zero alone.
     pub const ZERO: Iv = Iv { lo: 0, hi: 0 };
@@ -373,6 +398,21 @@ impl Iv {
         ensures fault { IfErr result (λ e. e ≡ NumFault.Size) }
     {
         checked(self.lo + other.lo, self.hi + other.hi)
+    }
+
+    /// `self + m b`, the sum of two products as `dot` has it, of which one is by one: only the sum is rounded.
+    ///
+    /// It is refused with `Size` exactly where a product of an end of `m` and one of `b`, or an end of `self` times `S`, is larger in size than `B`, and
+    /// never with `Zero`.
+    #[inline]
+    pub fn plus_product(self, m: Iv, b: Iv) -> Result<Iv, NumFault>
+        ensures exact { result ≡ iv_dot ((self, one_interval) ∷ (m, b) ∷ []) }
+        ensures fault { IfErr result (λ e. e ≡ NumFault.Size) }
+    {
+        match near_plus_product(self, m, b) {
+            Some(sum) => Ok(sum),
+            None => far_plus_product(self, m, b),
+        }
     }
 
     /// The differences. Nothing is rounded.
