@@ -22,6 +22,3 @@ pub use model::JointModel;
 pub use models::{Continuous, Fixed, Free, Planar, Prismatic, Revolute};
 pub use places::{outside, place_of, place_shifted};
 pub use turns::{Quaternion, SineCosine, axis_products, rotation, turn_about, turn_level, turn_of};
-
-#[cfg(test)]
-mod tests;

@@ -59,25 +59,3 @@ impl fmt::Display for NumFault {
 }
 
 impl Error for NumFault {}
-
-#[cfg(test)]
-mod tests {
-    use super::*;
-    use crate::interval::B;
-    use std::test::Fail;
-
-    // An end of one negative unit, and the limit, which has 25 digits before the point.
-    #[test]
-    fn printed_texts(rt: HostRuntime) -> Result<(), Fail> {
-        let small = Iv::new(-1, 12_000_000_000_000).to_string(rt.alloc())?;
-        assert_eq!(rt; small.as_str(), "-0.000000000001..12.000000000000");
-        let limit = Iv::new(-B, B).to_string(rt.alloc())?;
-        assert_eq!(rt;
-            limit.as_str(),
-            "-1329227995784915872903807.060280344576..1329227995784915872903807.060280344576"
-        );
-        let fault = NumFault::Zero.to_string(rt.alloc())?;
-        assert_eq!(rt; fault.as_str(), "Zero");
-        Ok(())
-    }
-}

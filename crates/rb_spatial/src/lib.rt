@@ -18,6 +18,3 @@ pub use motions::{
 pub use narrow::NarrowVec3;
 pub use near::{near_dot, near_one};
 pub use vectors::{Mat3, Sym3, Vec3};
-
-#[cfg(test)]
-mod tests;

@@ -1,4 +1,4 @@
-use crate::{
+use rb_joint::{
     AnyJoint, Continuous, Fixed, Free, JointFault, JointModel, Planar, Prismatic, Quaternion,
     Revolute, SineCosine, frame_of, turn_of,
 };

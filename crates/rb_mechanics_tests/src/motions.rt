@@ -1,8 +1,8 @@
-use crate::{
+use rb_num::{Iv, NumFault};
+use rb_spatial::{
     BodyInertia, Force, Frame, Inertia6, Mat3, Motion, Place, Sym3, Vec3, apply, apply_dual, carry,
     cross, cross_dual, less_outer, power, sum, table, times, times_body,
 };
-use rb_num::{Iv, NumFault};
 use std::test::Fail;
 
 // The whole number `n`.
