@@ -1,10 +1,11 @@
 -- Steps one after the other: where a step leaves more than the work, the work alone is what a run over names leaves.
-use Rattle.std.proofs.Common.{◌≡◌, ℕ, List, [], ◌∷◌, flat_map, Result, Ok, Err, inl, inr, refl, ap, sym, ◌∙◌, subst}
+use Rattle.std.proofs.Common.{◌≡◌, ℕ, ◌+◌, ◌<◌, ◌≤◌, List, [], ◌∷◌, flat_map, Result, Ok, Err, inl, inr, refl, ap, sym, ◌∙◌, subst, arith}
 use Rattle.rb_result.specs.Steps.{◌>>=◌, told_as}
 use Rattle.rb_result.proofs.Results.{then-ok, same_ok}
 use Rattle.rb_sweep.specs.Sweep.{sweep, Among}
 use Rattle.rb_sweep.specs.Naming.{Naming, run}
-use Rattle.rb_sweep.proofs.Climbing.{run_append}
+use Rattle.rb_sweep.proofs.Climbing.{Climbs, run_append}
+use Rattle.rb_sweep.proofs.NamingLaws.{Shape, IsOrdered}
 
 pub then_same_where : {A B E : Type 0} (r : Result A E) (f g : A → Result B E) → ((x : A) → r ≡ Ok x → f x ≡ g x) → (r >>= f) ≡ (r >>= g)
 then_same_where (Ok x) f g h = h x refl
@@ -25,6 +26,15 @@ module _ {S E : Type 0} (p : Naming S E) (Fits : S → Type 0) (put_fits : (n : 
       ap (λ r. (r >>= λ t. sweep at is t)) (h i s (inl refl) f)
       ∙ then_same_where (run p (names i) s) _ _ (λ t e. sweep_run at names is (λ j s k g. h j s (inr k) g) t (run_fits (names i) s t f e))
       ∙ sym (run_append p (names i) (flat_map names is) s)
+
+-- a run over names that climb leaves all names of smaller rank
+pub run_below : {S E : Type 0} (p : Naming S E) (v : Shape p) (o : IsOrdered p v) (ns : List p.Name) (a b : ℕ) (s t : S) → Climbs v.rank v.Known a ns b → v.Fits s → run p ns s ≡ Ok t
+    → (m : p.Name) → v.Known m → v.rank m < a → p.look m s ≡ p.look m t
+run_below {S} {E} p v o [] a b s t c f e m k l = ap (p.look m) (same_ok {E = E} s t e)
+run_below {S} {E} p v o (n ∷ ns) a b s t c f e m k l =
+    let h = then-ok (p.rule n s) (λ x. run p ns (p.put n x s)) t e in
+    let high : a ≤ v.rank n = c.1 in
+    sym (o.put_other m n h.0 s k c.0 f (omega arith)) ∙ run_below p v o ns (v.rank n + 1) b (p.put n h.0 s) t c.2 (o.put_fits n h.0 s f) h.2 m k (omega arith)
 
 -- ---- a column gives way
 module _ {A C N R V F G : Type 0} (f : F → G) (less : Result N F) (gives : A → C → N → Result R F) (left : A → C → N → V) where

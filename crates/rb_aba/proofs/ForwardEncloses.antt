@@ -32,7 +32,7 @@ use Rattle.rb_rnea.proofs.DynamicsEnclose.{s_is, rates_within}
 use Rattle.rb_articulated.specs.Laws as Laws
 use Rattle.rb_articulated.proofs.Torques.{joint_column, column_again}
 use Rattle.rb_aba.specs.Articulated.{Rest}
-use Rattle.rb_aba.specs.Forward.{AllLead, AreForward, JointBears, SolutionLies, ForwardLies, EnclosesForward}
+use Rattle.rb_aba.specs.Forward.{AllLead, AreFirst, AreForward, JointBears, SolutionLies, ForwardLies, EnclosesForward}
 use Rattle.rb_aba.proofs.Pass as Pass
 use Rattle.rb_aba.proofs.Pass.{BodyWithin, IsWithin}
 use Rattle.rb_aba.proofs.ForwardLie.{forward_lies}
@@ -57,7 +57,7 @@ all_lead tree h zero there = absurd (omega (arith, there.from))
 all_lead tree h (suc k) there = leads tree.bodies h k
 
 module _ (tree : Tree) (row : Row) (kept : AreBodies tree.bodies) (lead : AllLead tree) (c : Choice) (chosen : IsChoice (brackets_of tree) (state_brackets row) c)
-    (w : View) (are : AreForward tree row w) where
+    (w : View) (are : AreFirst tree row w) where
   body_within : (i : ℕ) → HasBody tree i → BodyWithin (shape_of tree) (mechanism_of (shape_of tree) c) (given tree row w) i
   unfolding mechanism_of state_brackets chosen_inertia motion_of
   body_within i has =
@@ -85,7 +85,7 @@ module _ (tree : Tree) (row : Row) (kept : AreBodies tree.bodies) (lead : AllLea
       forward_lies (shape_of tree) (mechanism_of (shape_of tree) c) (given tree row w) (articulated tree w) (accelerated tree w)
       (parents_first tree kept) (columns_fit tree kept) (all_lead tree lead) within (a_pass tree row w are.articulated are.speeds) (a_return tree row w are.accelerated)
 
-  solution_lies : (s : Unknowns Frac) → Pass.SolutionLies (shape_of tree) (articulated tree w) (accelerated tree w) s → SolutionLies tree s w
+  solution_lies : (s : Unknowns Frac) → Pass.SolutionLies (shape_of tree) (articulated tree w) (accelerated tree w) s → SolutionLies tree s w w
   solution_lies s h = record {
     velocity = h.speed;
     acceleration = h.acceleration;
@@ -105,8 +105,19 @@ module _ (tree : Tree) (row : Row) (kept : AreBodies tree.bodies) (lead : AllLea
         bears = b.bears;
       }
 
-  forward_within : ForwardLies tree row w c
+  forward_within : ForwardLies tree row w w c
   forward_within = record { one = lies.one; lies = solution_lies lies.one.solution (lies.lies lies.one.solution lies.one.solves) }
 
+-- what lies in the first values lies in those that are left
+module _ (tree : Tree) (row : Row) (w : View) (are : AreForward tree row w) where
+  left_lies : (s : Unknowns Frac) → SolutionLies tree s are.first are.first → SolutionLies tree s are.first w
+  left_lies s h =
+      subst (λ (v : View). SolutionLies tree s are.first v) (sym are.rest)
+      (record { velocity = h.velocity; acceleration = h.acceleration; joint_acceleration = h.joint_acceleration; joint_force = h.joint_force })
+
+  within_left : (c : Choice) → ForwardLies tree row are.first are.first c → ForwardLies tree row are.first w c
+  within_left c h = record { one = h.one; lies = left_lies h.one.solution h.lies }
+
 pub forward_encloses : (tree : Tree) (row : Row) (w : View) → AreBodies tree.bodies → AllLead tree → AreForward tree row w → EnclosesForward tree row w
-forward_encloses tree row w kept lead are = record { at = λ c chosen. forward_within tree row kept lead c chosen w are }
+forward_encloses tree row w kept lead are =
+    record { values = are; at = λ c chosen. within_left tree row w are c (forward_within tree row kept lead c chosen are.first are.found) }

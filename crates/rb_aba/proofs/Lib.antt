@@ -11,6 +11,10 @@ pub mod RowNames
 pub mod RowOrder
 pub mod RowAnswer
 pub mod Chains
+pub mod Alike
+pub mod FirstSteps
 pub mod UpRun
 pub mod DownRun
+pub mod Leaving
 pub mod RowRun
+pub mod RowMeans

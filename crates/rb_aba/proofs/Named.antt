@@ -1,11 +1,11 @@
 -- Steps of the code, with the names that their refusals bear.
-use Rattle.std.proofs.Common.{◌≡◌, ℕ, zero, suc, Bool, true, false, ◌||◌, List, [], ◌∷◌, slice_get, slice_set, Option, None, Some, is_some, Result, Ok, Err, refl, sym, ap, ◌∙◌}
+use Rattle.std.proofs.Common.{◌≡◌, ◌≢◌, ◌==◌, ◌+◌, ◌-◌, ◌<◌, if◌then◌else◌, arith, ℕ, zero, suc, Bool, true, false, ◌||◌, List, [], ◌∷◌, slice_get, slice_set, Option, None, Some, is_some, Result, Ok, Err, refl, sym, ap, ◌∙◌}
 use Rattle.std.specs.List.{list_any}
 use Rattle.std.specs.Option.{option_map_or}
 use Rattle.rb_num.specs.declared.interval.NumFault.{NumFault}
 use Rattle.rb_num.specs.Interval.{Interval}
 use Rattle.rb_num.specs.Arith.{intervals}
-use Rattle.rb_frac.specs.Spatial.{Motion, Force}
+use Rattle.rb_frac.specs.Spatial.{Motion, Force, Inertia}
 use Rattle.rb_spatial.specs.Motions.{power}
 use Rattle.rb_spatial.specs.Inertias.{times}
 use Rattle.rb_work.specs.declared.names.Name.{Name}
@@ -14,12 +14,14 @@ use Rattle.rb_work.specs.declared.names.RowFault.{RowFault}
 use Rattle.rb_work.specs.Names.{one, named_as, pivot_as}
 use Rattle.rb_work.specs.Path.{packed_place}
 use Rattle.rb_work.specs.View.{View}
+use Rattle.rb_sweep.specs.Sweep.{sweep, downward}
+use Rattle.rb_sweep.proofs.SweepSteps.{sweep_down_refused}
 use Rattle.rb_tree.specs.declared.robot.Body.{Body}
 use Rattle.rb_tree.specs.declared.robot.Mimic.{Mimic}
-use Rattle.rb_tree.specs.Columns.{has_mimic}
+use Rattle.rb_tree.specs.Columns.{parent_at, has_mimic}
 use Rattle.rb_tree.specs.Numbers.{mimic_at}
 use Rattle.rb_articulated.specs.Rules.{less_power}
-use Rattle.rb_aba.specs.Articulated.{Rest, give_way}
+use Rattle.rb_aba.specs.Articulated.{Rest, join_inertia, add_inertia, give_way}
 use Rattle.rb_aba.specs.Steps.{giving, column_by}
 
 -- ---- no joint follows another
@@ -39,6 +41,24 @@ led (b ∷ bs) h (suc k) = led bs (rest (is_some b.mimic) h) k
 pub no_mimic : (bodies : List Body) → has_mimic bodies ≡ false → (i : ℕ) → mimic_at bodies i ≡ None
 no_mimic bodies h zero = refl
 no_mimic bodies h (suc k) = led bodies h k
+
+-- ---- children
+pub child_added : (bodies : List Body) (w : View) (i j : ℕ) (total : Inertia Interval) (r : Result (Inertia Interval) NumFault) → parent_at bodies j ≡ i → join_inertia w j total ≡ r
+    → add_inertia bodies w i j total ≡ r
+unfolding add_inertia
+child_added bodies w i j total r e h = let b : (parent_at bodies j == i) ≡ true = grind arith in ap (λ (t : Bool). if t then join_inertia w j total else Ok total) b ∙ h
+
+pub child_passed : (bodies : List Body) (w : View) (i j : ℕ) (total : Inertia Interval) → parent_at bodies j ≢ i → add_inertia bodies w i j total ≡ Ok total
+unfolding add_inertia
+child_passed bodies w i j total e = let b : (parent_at bodies j == i) ≡ false = grind arith in ap (λ (t : Bool). if t then join_inertia w j total else Ok total) b
+
+pub ruleset children = (child_added, child_passed)
+
+pub down_refused : {S E : Type 0} (step : ℕ → S → Result S E) (lo hi : ℕ) (s : S) (e : E) (whole : Result S E) → lo < hi → step (hi - 1) s ≡ Err e
+    → sweep step (downward lo hi) s ≡ whole → whole ≡ Err e
+down_refused step lo hi s e whole l r same =
+    let h : hi ≡ hi - 1 + 1 = omega arith in
+    sym same ∙ ap (λ k. sweep step (downward lo k) s) h ∙ sweep_down_refused step lo (hi - 1) s e (omega arith) r
 
 -- ---- a step under its name
 pub named_was : {A : Type 0} (n m : Name) (r q : Result A NumFault) (step answer : Result A RowFault) → m ≡ n → q ≡ r → step ≡ named_as m q → step ≡ answer → named_as n r ≡ answer

@@ -1,5 +1,5 @@
 -- The values of a row, and the first refusal, are determined by the robot and the row alone.
-use Rattle.std.proofs.Common.{◌≡◌, ℕ, zero, suc, ◌+◌, List, Result, Ok, Err, OnOk, IfErr, inl, inr, refl, ap, sym, ◌∙◌, subst, arith}
+use Rattle.std.proofs.Common.{◌≡◌, ℕ, zero, suc, ◌+◌, List, Result, Ok, Err, inl, inr, refl, ap, sym, ◌∙◌, subst, arith}
 use Rattle.rb_num.specs.Interval.{Interval}
 use Rattle.rb_result.specs.Steps.{◌>>=◌}
 use Rattle.rb_result.proofs.Results.{same_ok, not-both, then-ok, then-err}
@@ -7,7 +7,6 @@ use Rattle.rb_work.specs.View.{View, extent_of, blank_of, v_at, a_at, x_at, U_at
 use Rattle.rb_work.specs.Zeros.{zero_motion}
 use Rattle.rb_work.specs.Place.{Place, q_of, X_of, s_of, v_of, c_of, IA_of, p_of, U_of, packed_of, u_of, Ia_of, pa_of, x_of, a_of, look}
 use Rattle.rb_work.specs.declared.names.RowFault.{RowFault}
-use Rattle.rb_sweep.specs.Sweep.{Answers}
 use Rattle.rb_sweep.specs.Naming.{run}
 use Rattle.rb_sweep.proofs.Climbing.{map_upward_same}
 use Rattle.rb_sweep.proofs.NamingLaws.{found, refusal, same_values, not_both, one_refusal, finds, refuses}
@@ -22,7 +21,7 @@ use Rattle.rb_rnea.specs.Dynamics.{extent_for}
 use Rattle.rb_rnea.proofs.RowPass.{HasRoom, has_body, room}
 use Rattle.rb_aba.specs.Articulated.{HasJointColumn, column_of, U_rule, D_rule, u_rule}
 use Rattle.rb_aba.specs.Accelerations.{x_rule, a_rule}
-use Rattle.rb_aba.specs.Forward.{AllLead, AreForward, place_in, rule, order, IsRefused, accelerations_in, answer_of, HasOneAnswer, AnswerMeans}
+use Rattle.rb_aba.specs.Forward.{AllLead, AreFirst, place_in, rule, order, IsRefused, accelerations_in, answer_of}
 use Rattle.rb_aba.proofs.RowNames.{body_again, place_again, column_there, number_again, has_number, Own, run_of, call}
 use Rattle.rb_aba.proofs.RowOrder.{is_call}
 
@@ -35,8 +34,8 @@ module _ (tree : Tree) (row : Row) (kept : AreBodies tree.bodies) (lead : AllLea
   at_joint f i k col =
       ap (λ (j : ℕ). f j (place_in tree.bodies (column_of tree.bodies i k))) (body_again tree kept lead i k col) ∙ ap (f i) (place_again tree kept lead i k col)
 
-  are_forward : (w : View) → Holds w → AreForward tree row w
-  are_forward w h = record {
+  are_first : (w : View) → Holds w → AreFirst tree row w
+  are_first w h = record {
     places = record { each_q = λ i k. h (q_of i) k; each_X = λ i k. h (X_of i) k };
     speeds = record { at_world = sym (same_ok {E = RowFault} zero_motion (v_at w 0) (h (v_of 0) (omega arith))); each_s = λ i k. h (s_of i) k; each_v = each_v };
     articulated = record {
@@ -71,7 +70,7 @@ module _ (tree : Tree) (row : Row) (kept : AreBodies tree.bodies) (lead : AllLea
       subst (P (body_of_column tree.bodies c) (place_in tree.bodies c)) (number_again tree kept lead c has)
       (h (body_of_column tree.bodies c) (place_in tree.bodies c) (column_there tree kept lead c has))
 
-  holds : (w : View) → AreForward tree row w → Holds w
+  holds : (w : View) → AreFirst tree row w → Holds w
   holds w h (q_of i) k = h.places.each_q i k
   holds w h (X_of i) k = h.places.each_X i k
   holds w h (s_of i) k = h.speeds.each_s i k
@@ -91,8 +90,8 @@ module _ (tree : Tree) (row : Row) (kept : AreBodies tree.bodies) (lead : AllLea
   holds w h (a_of (suc i)) k = h.accelerated.each_a (suc i) (has_body tree (suc i) (omega arith) k)
   holds w h _ k = absurd k
 
-  pub row_found : (w t : View) → sizes_of w ≡ sizes_for (extent_of w) → HasRoom tree (extent_of w) → run_of tree row w ≡ Ok t → AreForward tree row t
-  row_found w t f has e = are_forward t (found _ _ (ordered (call tree row (extent_of w)) (is_call tree kept lead row (extent_of w) has)) w t f e).holds
+  pub row_found : (w t : View) → sizes_of w ≡ sizes_for (extent_of w) → HasRoom tree (extent_of w) → run_of tree row w ≡ Ok t → AreFirst tree row t
+  row_found w t f has e = are_first t (found _ _ (ordered (call tree row (extent_of w)) (is_call tree kept lead row (extent_of w) has)) w t f e).holds
 
   pub row_refused : (w : View) (e : RowFault) → sizes_of w ≡ sizes_for (extent_of w) → HasRoom tree (extent_of w) → run_of tree row w ≡ Err e → IsRefused tree row e
   row_refused w e f has r =
@@ -103,19 +102,16 @@ module _ (tree : Tree) (row : Row) (kept : AreBodies tree.bodies) (lead : AllLea
   order_of : IsCall (call tree row (extent_for tree))
   order_of = is_call tree kept lead row (extent_for tree) (room tree row kept)
 
-  same_accelerations : (u w : View) → AreForward tree row u → AreForward tree row w → accelerations_in tree u ≡ accelerations_in tree w
+  pub same_accelerations : (u w : View) → AreFirst tree row u → AreFirst tree row w → accelerations_in tree u ≡ accelerations_in tree w
   same_accelerations u w hu hw =
       map_upward_same (x_at u) (x_at w) 1 (column_count tree.bodies + 1)
       (λ c low high. same_values _ _ (ordered (call tree row (extent_for tree)) order_of) u w (λ g. absurd g.1) (holds u hu) (holds w hw) (x_of c) (record { from = low; to = omega arith }))
 
-  either : (w : View) (e : RowFault) → AreForward tree row w → IsRefused tree row e → ⊥
+  pub either : (w : View) (e : RowFault) → AreFirst tree row w → IsRefused tree row e → ⊥
   either w e hw r = not_both _ _ (ordered (call tree row (extent_for tree)) order_of) w r.values e (λ g. absurd g.1) (holds w hw) r.first
 
-  one_refused : (d e : RowFault) → IsRefused tree row d → IsRefused tree row e → d ≡ e
+  pub one_refused : (d e : RowFault) → IsRefused tree row d → IsRefused tree row e → d ≡ e
   one_refused d e q r = one_refusal _ _ (ordered (call tree row (extent_for tree)) order_of) q.values r.values d e (λ g. absurd g.1) q.first r.first
-
-  pub one_answer : HasOneAnswer tree row
-  one_answer = record { values = same_accelerations; either = either; refusal = one_refused }
 
   -- ---- from zeros
   ok : List Interval → Result (List Interval) RowFault
@@ -124,9 +120,9 @@ module _ (tree : Tree) (row : Row) (kept : AreBodies tree.bodies) (lead : AllLea
   blank : View
   blank = blank_of (extent_for tree)
 
-  pub answer_is : (t : View) → AreForward tree row t → answer_of tree row ≡ Ok (accelerations_in tree t)
+  pub first_answer : (t : View) → AreFirst tree row t → answer_of tree row ≡ Ok (accelerations_in tree t)
   unfolding answer_of blank ok
-  answer_is t h =
+  first_answer t h =
       let r = finds _ _ (ordered (call tree row (extent_for tree)) order_of) blank t (blank_for (extent_for tree)) (λ g. absurd g.1) (holds t h) in
       let told : accelerations_in tree r.reached ≡ accelerations_in tree t =
       map_upward_same (x_at r.reached) (x_at t) 1 (column_count tree.bodies + 1) (λ c low high. r.same (x_of c) (record { from = low; to = omega arith })) in
@@ -138,27 +134,29 @@ module _ (tree : Tree) (row : Row) (kept : AreBodies tree.bodies) (lead : AllLea
       ap (λ x. (x >>= λ w. ok (accelerations_in tree w)))
       (refuses _ _ (ordered (call tree row (extent_for tree)) order_of) blank h.values e (blank_for (extent_for tree)) (λ g. absurd g.1) h.first)
 
-  pub told_answer : {A : Type 0} (r : Result A RowFault) (t : View) → OnOk r (AreForward tree row t) → IfErr r (IsRefused tree row) → Answers r (answer_of tree row) (accelerations_in tree t)
-  told_answer (Ok x) t h k = answer_is t h
-  told_answer (Err e) t h k = answer_refused e k
+  -- values that are found, in a work of the right sizes
+  pub record Found (numbers : List Interval) : Type 0 where
+    pub values : View
+    pub fits : sizes_of values ≡ sizes_for (extent_for tree)
+    pub are : AreFirst tree row values
+    pub same : accelerations_in tree values ≡ numbers
 
-  found_of : (numbers : List Interval) → answer_of tree row ≡ Ok numbers → (w : View) × AreForward tree row w × (accelerations_in tree w ≡ numbers)
+  pub found_first : (numbers : List Interval) → answer_of tree row ≡ Ok numbers → Found numbers
   unfolding answer_of blank
-  found_of numbers e =
+  found_first numbers e =
       let h = then-ok (run (naming (call tree row (extent_for tree))) (order tree) blank) _ numbers e in
-      (h.0, row_found blank h.0 (blank_for (extent_for tree)) (room tree row kept) h.1, same_ok {E = RowFault} _ _ h.2)
+      let f = found _ _ (ordered (call tree row (extent_for tree)) order_of) blank h.0 (blank_for (extent_for tree)) h.1 in
+      record { values = h.0; fits = f.fits; are = are_first h.0 f.holds; same = same_ok {E = RowFault} _ _ h.2 }
 
-  refused_of : (e : RowFault) → answer_of tree row ≡ Err e → IsRefused tree row e
+  -- they are found again
+  pub found_again : (w : View) → sizes_of w ≡ sizes_for (extent_of w) → HasRoom tree (extent_of w) → AreFirst tree row w → (t : View) × (run_of tree row w ≡ Ok t)
+  found_again w f has h =
+      let r = finds _ _ (ordered (call tree row (extent_of w)) (is_call tree kept lead row (extent_of w) has)) w w f (λ g. refl) (holds w h) in (r.reached, r.sweeps)
+
+  pub refused_of : (e : RowFault) → answer_of tree row ≡ Err e → IsRefused tree row e
   unfolding answer_of blank ok
   refused_of e r =
       elim (then-err (run (naming (call tree row (extent_for tree))) (order tree) blank) (λ w. ok (accelerations_in tree w)) e r) [
         | inl d ↦ row_refused blank e (blank_for (extent_for tree)) (room tree row kept) d
         | inr m ↦ absurd (not-both (ok (accelerations_in tree m.0)) (accelerations_in tree m.0) e refl m.2)
       ]
-
-  pub answer_means : AnswerMeans tree row
-  unfolding ok
-  answer_means = record {
-    values = λ numbers. (found_of numbers, λ h. answer_is h.0 h.1 ∙ ap ok h.2);
-    refused = λ e. (refused_of e, answer_refused e);
-  }

@@ -229,7 +229,7 @@ module _ (tree : Tree) (kept : AreBodies tree.bodies) (lead : AllLead tree) wher
   abbrev up_edge : ℕ → ℕ
   up_edge i = 4 * pass tree + 24 * (pass tree - i)
 
-  body_climbs : (i : ℕ) → HasBody tree i → Climbs r K (up_edge (i + 1)) (Up.body_names tree i) (up_edge i)
+  pub body_climbs : (i : ℕ) → HasBody tree i → Climbs (rank tree) (Own tree) (4 * pass tree + 24 * (pass tree - (i + 1))) (Up.body_names tree i) (4 * pass tree + 24 * (pass tree - i))
   body_climbs i has =
       let low : 1 ≤ i = has.from in
       let high : i ≤ length tree.bodies = has.to in (

@@ -28,7 +28,8 @@ use Rattle.rb_rnea.specs.Accelerations.{c_rule}
 use Rattle.rb_rnea.proofs.RowPass.{HasRoom}
 use Rattle.rb_articulated.specs.Rules.{less_power}
 use Rattle.rb_aba.specs.Articulated.{HasJointColumn, column_of, axis_at, torque_at, Rest, give_way, passed_at, rest_from, U_rule, D_rule, checked_rest, u_rule, IA_rule, p_rule, Ia_rule, handed_with, pa_rule, column_names, body_names, order}
-use Rattle.rb_aba.specs.Steps.{Giving, giving, column_by, column_step, columns_of, handed_by, first_step, up_step, ups_of}
+use Rattle.rb_aba.specs.Steps.{Giving, giving, column_by, column_step, columns_of}
+use Rattle.rb_aba.proofs.FirstSteps.{first_found, handed_found, up_found, ups_found}
 use Rattle.rb_aba.specs.Forward.{AllLead, rule}
 use Rattle.rb_aba.proofs.Bridge.{sweep_down_last, sweep_down_none}
 use Rattle.rb_aba.proofs.Chains.{column_chain, then_same_where, three_chain, sweep_run}
@@ -200,8 +201,8 @@ module _ (tree : Tree) (row : Row) (kept : AreBodies tree.bodies) (lead : AllLea
     abbrev ends : List Place
     ends = Ia_of i ∷ pa_of i ∷ []
 
-    ends_run : (t : Giving) → Good i 0 t → handed_by i t ≡ run p ends t.0
-    unfolding handed_by Ia_rule pa_rule
+    ends_run : (t : Giving) → Good i 0 t → handed_found i t ≡ run p ends t.0
+    unfolding handed_found Ia_rule pa_rule
     ends_run t g =
         let w4 = put (Ia_of i) t.1.0 t.0 in
         let low : (m : Place) → Own tree m → rank tree m < up_rank tree i + 21 → look m w4 ≡ look m t.0 =
@@ -214,18 +215,18 @@ module _ (tree : Tree) (row : Row) (kept : AreBodies tree.bodies) (lead : AllLea
         ∙ ap (λ (r : Result Rest NumFault). handed r >>= λ x. (let q : Result View RowFault = Ok (put (pa_of i) x w4) in q)) rest)
 
     behind_first : (s : Giving) → Good i (joint_columns tree.bodies i) s
-        → (columns_of tree row i s >>= λ t. handed_by i t) ≡ run p (flat_map (column_names tree i) (downward 0 (joint_columns tree.bodies i)) ++ ends) s.0
+        → (columns_of tree row i s >>= λ t. handed_found i t) ≡ run p (flat_map (column_names tree i) (downward 0 (joint_columns tree.bodies i)) ++ ends) s.0
     unfolding downward
     behind_first s g =
         let n = joint_columns tree.bodies i in
         let e : n ≡ n - 0 = omega arith in
-        subst (λ (m : ℕ). (steps_of m s >>= λ t. handed_by i t) ≡ run p (names_of m ++ ends) s.0) e
+        subst (λ (m : ℕ). (steps_of m s >>= λ t. handed_found i t) ≡ run p (names_of m ++ ends) s.0) e
         (sym (run_append p (names_of n) ends s.0
         ∙ ap (λ (r : Result View RowFault). r >>= λ t. run p ends t) (columns_run n (omega arith) s g)
         ∙ grouped (steps_of n s) (λ t. (let q : Result View RowFault = Ok t.0 in q)) (λ t. run p ends t)
         ∙ then_same_where (steps_of n s) _ _ (λ t f. sym (ends_run t (columns_good n (omega arith) s t g f)))))
 
-    first_rest : (w : View) → Fits w → (c : Motion Interval) (I : Inertia Interval) (P : Force Interval)
+    pub first_rest : (w : View) → Fits w → (c : Motion Interval) (I : Inertia Interval) (P : Force Interval)
         → Good i (joint_columns tree.bodies i) (giving (put (p_of i) P (put (IA_of i) I (put (c_of i) c w))) (I, P))
     unfolding rest_from
     first_rest w f c I P =
@@ -241,11 +242,11 @@ module _ (tree : Tree) (row : Row) (kept : AreBodies tree.bodies) (lead : AllLea
           rest = sweep_down_none (passed_at tree.bodies w3 i) (joint_columns tree.bodies i) (IA_at w3 i, p_at w3 i) ∙ rw (inertia, bias) refl;
         }
 
-    pub up_run : (w : View) → Fits w → up_step tree row i w ≡ run (naming (call tree row extent)) (body_names tree i) w
-    unfolding up_step first_step
+    pub up_run : (w : View) → Fits w → up_found tree row i w ≡ run (naming (call tree row extent)) (body_names tree i) w
+    unfolding up_found first_found
     up_run w f =
         three_chain (λ c. IA_rule tree i (put (c_of i) c w)) (λ c I. p_rule tree i (put (IA_of i) I (put (c_of i) c w)))
-        (λ c I P. giving (put (p_of i) P (put (IA_of i) I (put (c_of i) c w))) (I, P)) (λ s. columns_of tree row i s >>= λ t. handed_by i t) (c_rule tree i w)
+        (λ c I P. giving (put (p_of i) P (put (IA_of i) I (put (c_of i) c w))) (I, P)) (λ s. columns_of tree row i s >>= λ t. handed_found i t) (c_rule tree i w)
         ∙ then_same (c_rule tree i w) _ _ (λ c.
         then_same (IA_rule tree i (put (c_of i) c w)) _ _ (λ I.
         then_same (p_rule tree i (put (IA_of i) I (put (c_of i) c w))) _ _ (λ P.
@@ -255,7 +256,7 @@ module _ (tree : Tree) (row : Row) (kept : AreBodies tree.bodies) (lead : AllLea
             → Good i (joint_columns tree.bodies i) (giving (put (p_of i) P (put (IA_of i) I (put (c_of i) c w))) (I, P))
         first_good c I P = first_rest w f c I P
 
-  pub ups_run : (w : View) → Fits w → ups_of tree row w ≡ run (naming (call tree row extent)) (order tree) w
+  pub ups_run : (w : View) → Fits w → ups_found tree row w ≡ run (naming (call tree row extent)) (order tree) w
   ups_run w f =
-      sweep_run p Fits (λ n x s g. o.put_fits n x s g) (up_step tree row) (body_names tree) (downward 1 (length tree.bodies + 1))
+      sweep_run p Fits (λ n x s g. o.put_fits n x s g) (up_found tree row) (body_names tree) (downward 1 (length tree.bodies + 1))
       (λ i s k g. let there = in_downward 1 (length tree.bodies + 1) i k in up_run i (record { from = there.0; to = omega (arith, there.1) }) s g) w f

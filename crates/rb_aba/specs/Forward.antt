@@ -26,19 +26,26 @@ use Rattle.rb_tree.specs.Places.{q_rule, X_rule, ArePlaces, order as place_order
 use Rattle.rb_rnea.specs.Speeds.{s_rule, v_rule, AreSpeeds, order as speed_order}
 use Rattle.rb_rnea.specs.Accelerations.{world_acceleration, c_rule}
 use Rattle.rb_rnea.specs.Dynamics.{extent_for}
-use Rattle.rb_aba.specs.Articulated.{IA_rule, p_rule, U_rule, D_rule, u_rule, Ia_rule, pa_rule, AreArticulated, order as inertia_order}
+use Rattle.rb_aba.specs.Articulated.{rest_from, IA_rule, p_rule, U_rule, D_rule, u_rule, Ia_rule, pa_rule, AreArticulated, order as inertia_order}
 use Rattle.rb_aba.specs.Accelerations.{x_rule, a_rule, AreAccelerated, order as acceleration_order}
 
 -- no joint of the robot follows another
 abbrev pub AllLead : Tree → Type 0
 AllLead tree = has_mimic tree.bodies ≡ false
 
--- each value that the work holds is what its rule gives from the values that the work holds
-pub record AreForward (tree : Tree) (row : Row) (w : View) : Type 0 where
+-- each value is what its rule gives from these values: IA and p are those of a body before its columns give way
+pub record AreFirst (tree : Tree) (row : Row) (w : View) : Type 0 where
   pub places : ArePlaces tree row w
   pub speeds : AreSpeeds tree row w
   pub articulated : AreArticulated tree row w
   pub accelerated : AreAccelerated tree row w
+
+-- the work holds values as they are first found, but in IA and p what is left of a body once all its columns have given way
+pub record AreForward (tree : Tree) (row : Row) (w : View) : Type 0 where
+  pub first : View
+  pub found : AreFirst tree row first
+  pub rest : w ≡ record first { IA = w.IA; p = w.p }
+  pub last : (i : ℕ) → HasBody tree i → rest_from tree.bodies i 0 first ≡ Ok (IA_at w i, p_at w i)
 
 -- ---- the names, in the order in which they are found
 -- the place of a column in its joint, from 0
@@ -83,29 +90,30 @@ answer_of tree row =
     run (names (rule tree row) (order tree)) (order tree) (blank_of (extent_for tree)) >>= λ w. Ok (accelerations_in tree w)
 
 -- ---- what they enclose
--- an inertia and a bias with which the joint of body i bears it, and all that it bears, lie in IA and p
-pub record JointBears (s : Unknowns Frac) (w : View) (i : ℕ) : Type 0 where
+-- an inertia and a bias with which the joint of body i bears it, and all that it bears, lie in the first IA and p
+pub record JointBears (s : Unknowns Frac) (first : View) (i : ℕ) : Type 0 where
   pub inertia : Inertia Frac
   pub bias : Force Frac
-  pub inertia_lies : Inertias LiesIn inertia (IA_at w i)
-  pub bias_lies : Forces LiesIn bias (p_at w i)
+  pub inertia_lies : Inertias LiesIn inertia (IA_at first i)
+  pub bias_lies : Forces LiesIn bias (p_at first i)
   pub bears : Forces Same (s.joint_force i) (plus fracs (times fractions inertia (s.acceleration i)) bias)
 
--- the velocities and the accelerations of the bodies lie in v and a, and the accelerations of the columns in x
-pub record SolutionLies (tree : Tree) (s : Unknowns Frac) (w : View) : Type 0 where
+-- the velocities and the accelerations of the bodies lie in v and a, and the accelerations of the columns in x; the joint forces lie by the first IA and p
+pub record SolutionLies (tree : Tree) (s : Unknowns Frac) (first w : View) : Type 0 where
   pub velocity : (i : ℕ) → i ≤ length tree.bodies → Motions LiesIn (s.speed i) (v_at w i)
   pub acceleration : (i : ℕ) → i ≤ length tree.bodies → Motions LiesIn (s.acceleration i) (a_at w i)
   pub joint_acceleration : (c : ℕ) → HasColumn tree c → LiesIn (s.joint_acceleration c) (x_at w c)
-  pub joint_force : (i : ℕ) → HasBody tree i → JointBears s w i
+  pub joint_force : (i : ℕ) → HasBody tree i → JointBears s first i
 
 -- for each choice within the brackets of the robot and of the row the equations of motion have exactly one solution with its torques, and it lies in
 -- the values
-pub record ForwardLies (tree : Tree) (row : Row) (w : View) (c : Choice) : Type 0 where
+pub record ForwardLies (tree : Tree) (row : Row) (first w : View) (c : Choice) : Type 0 where
   pub one : HasOneSolution (SameUnknowns Same (shape_of tree)) (SolvesForward (shape_of tree) c (no_force fracs))
-  pub lies : SolutionLies tree one.solution w
+  pub lies : SolutionLies tree one.solution first w
 
 pub record EnclosesForward (tree : Tree) (row : Row) (w : View) : Type 0 where
-  pub at : (c : Choice) → IsChoice (brackets_of tree) (state_brackets row) c → ForwardLies tree row w c
+  pub values : AreForward tree row w
+  pub at : (c : Choice) → IsChoice (brackets_of tree) (state_brackets row) c → ForwardLies tree row values.first w c
 
 -- ---- laws
 -- there is one answer, whatever a work held: the same accelerations, or one refusal, and not both
@@ -119,6 +127,6 @@ pub record AnswerMeans (tree : Tree) (row : Row) : Type 0 where
   pub values : (numbers : List Interval) → (answer_of tree row ≡ Ok numbers) ↔ ((w : View) × AreForward tree row w × (accelerations_in tree w ≡ numbers))
   pub refused : (e : RowFault) → (answer_of tree row ≡ Err e) ↔ IsRefused tree row e
 
--- all values that are what their rules give enclose the one solution of each choice
+-- all such values enclose the one solution of each choice
 pub record AnswerEncloses (tree : Tree) (row : Row) : Type 0 where
   pub values : (w : View) → AreForward tree row w → EnclosesForward tree row w

@@ -48,12 +48,13 @@ column_step tree row i k s =
 abbrev pub columns_of : Tree → Row → ℕ → Giving → Result Giving RowFault
 columns_of tree row i s = sweep (column_step tree row i) (downward 0 (joint_columns tree.bodies i)) s
 
--- what is left once all columns have given way, with what the inertia needs for c[i]
+-- what is left once all columns have given way, and what the parent gets of it
 unfoldable pub handed_by : ℕ → Giving → Result View RowFault
 handed_by i s =
-    let w = record s.0 { Ia = slice_set s.0.Ia i s.1.0 } in
-    named_as (one K.pa i) (handed_with s.1 (c_at w i)) >>= λ pa.
-    Ok (record w { pa = slice_set w.pa i pa })
+    let w = s.0 in
+    let rest = s.1 in
+    named_as (one K.pa i) (handed_with rest (c_at w i)) >>= λ pa.
+    Ok (record w { IA = slice_set w.IA i rest.0; p = slice_set w.p i rest.1; Ia = slice_set w.Ia i rest.0; pa = slice_set w.pa i pa })
 
 -- the same, of what is left and the work where it was
 abbrev pub giving_in : View → Result Rest RowFault → Result Giving RowFault
@@ -65,9 +66,8 @@ first_step tree i w =
     c_rule tree i w >>= λ c.
     let w1 = record w { c = slice_set w.c i c } in
     IA_rule tree i w1 >>= λ inertia.
-    let w2 = record w1 { IA = slice_set w1.IA i inertia } in
-    p_rule tree i w2 >>= λ bias.
-    Ok (giving (record w2 { p = slice_set w2.p i bias }) (inertia, bias))
+    p_rule tree i w1 >>= λ bias.
+    Ok (giving w1 (inertia, bias))
 
 unfoldable pub up_step : Tree → Row → ℕ → View → Result View RowFault
 up_step tree row i w = first_step tree i w >>= λ first. (columns_of tree row i first >>= λ last. handed_by i last)

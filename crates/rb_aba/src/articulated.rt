@@ -46,29 +46,8 @@ fn joined_bias(j: u32, total: &Force, work: &Work) -> Result<Force, NumFault>
     sum_forces(total, &carried)
 }
 
-// One more body: it may be a child of body i.
-#[tactic(auto, unfolding(crate::specs::Articulated::add_inertia))]
-fn with_child(
-    robot: &Robot,
-    i: u32,
-    j: u32,
-    total: Inertia6,
-    work: &Work,
-) -> Result<Inertia6, NumFault>
-    requires room { work.now.bodies ≡ length robot.now.bodies }
-    requires there { HasBody robot.now j }
-    ensures exact { result ≡ add_inertia robot.now.bodies work.now i j total }
-    ensures size { IfErr result (λ e. e ≡ NumFault.Size) }
-{
-    if robot.parent(j) == i {
-        joined_inertia(j, &total, work)
-    } else {
-        Ok(total)
-    }
-}
-
 // The inertia of a body, with its children's.
-#[tactic(auto, using(rb_sweep::proofs::SweepSteps::sweeps_down))]
+#[tactic(auto, using(rb_sweep::proofs::SweepSteps::sweeps_down, crate::proofs::Named::children))]
 fn inertia_at(robot: &Robot, i: u32, work: &Work) -> Result<Inertia6, NumFault>
     requires room { work.now.bodies ≡ length robot.now.bodies }
     requires there { HasBody robot.now i }
@@ -78,7 +57,9 @@ fn inertia_at(robot: &Robot, i: u32, work: &Work) -> Result<Inertia6, NumFault>
     let end = robot.bodies() + 1;
     let mut total = table(robot.inertia(i));
     for j in (i + 1..end).rev() {
-        total = with_child(robot, i, j, total, work)?;
+        if robot.parent(j) == i {
+            total = joined_inertia(j, &total, work)?;
+        }
     }
     Ok(total)
 }
@@ -205,14 +186,12 @@ fn first_values(robot: &Robot, i: u32, work: &mut Work) -> Result<(Inertia6, For
     requires room { work.old.bodies ≡ length robot.now.bodies }
     requires there { HasBody robot.now i }
     ensures step { first_step robot.now i work.old ≡ giving_in work.new result }
-    ensures others { work.new ≡ record work.old { c = work.new.c; IA = work.new.IA; p = work.new.p } }
+    ensures others { work.new ≡ record work.old { c = work.new.c } }
 {
     let c = named(moved_along(robot, i, work), Name::one(NameKind::c, i))?;
     work.set_c(i, c);
     let inertia = named(inertia_at(robot, i, work), Name::one(NameKind::IA, i))?;
-    work.set_IA(i, inertia);
     let bias = named(bias_at(robot, i, work), Name::one(NameKind::p, i))?;
-    work.set_p(i, bias);
     Ok((inertia, bias))
 }
 
@@ -231,10 +210,12 @@ fn handed(rest: &(Inertia6, Force), c: &Motion) -> Result<Force, NumFault>
 fn hand_over(i: u32, rest: &(Inertia6, Force), work: &mut Work) -> Result<(), RowFault>
     requires room { i ≤ work.old.bodies }
     ensures step { Answers result (handed_by i (giving work.old rest.now)) work.new }
-    ensures others { work.new ≡ record work.old { Ia = work.new.Ia; pa = work.new.pa } }
+    ensures others { work.new ≡ record work.old { IA = work.new.IA; p = work.new.p; Ia = work.new.Ia; pa = work.new.pa } }
 {
-    work.set_Ia(i, rest.0);
     let pa = named(handed(rest, work.c(i)), Name::one(NameKind::pa, i))?;
+    work.set_IA(i, rest.0);
+    work.set_p(i, rest.1);
+    work.set_Ia(i, rest.0);
     work.set_pa(i, pa);
     Ok(())
 }

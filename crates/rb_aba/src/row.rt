@@ -43,8 +43,8 @@ fn behind_places(robot: &Robot, state: &State, work: &mut Work) -> Result<(), Ro
 }
 
 /// The accelerations that a row's torques give at its position and speeds, under its gravity, by articulated bodies: the values
-/// `q X s v c IA p U D u Ia pa x a` of the work, in metres, radians and seconds. No joint of the robot follows another; `IA` and `p` are a body's before its
-/// columns give way, and `Ia` and `pa` what its parent gets.
+/// `q X s v c IA p U D u Ia pa x a` of the work, in metres, radians and seconds. No joint of the robot follows another; `IA` and `p` are what is left of a
+/// body once all its columns have given way, and `Ia` and `pa` what its parent gets.
 ///
 /// A refusal is that of the first name that is refused, in this order: `q` and `X` body by body, then `s` and `v`; then from the last body on `c`, `IA` and
 /// `p`, `U`, `D` and `u` column by column from the last on, and `pa`; then `x` and `a` from the first body on. `Range` and `NotUnit` bear `q`, `Pivot` the `D`
@@ -55,7 +55,7 @@ pub fn aba(robot: &Robot, state: &State, work: &mut Work) -> Result<(), RowFault
     requires fits { Fits robot.now state.now }
     requires room { IsFor robot.now work.old }
 
-    // each value that the work holds is what its rule gives from the values that the work holds
+    // the values are what their rules give from them as they are first found, and IA and p are what is left of these
     ensures values { OnOk result (AreForward robot.now state.now work.new) }
 
     // there are values in which each name before one is what its rule gives, and the rule of that one refuses so
@@ -64,7 +64,7 @@ pub fn aba(robot: &Robot, state: &State, work: &mut Work) -> Result<(), RowFault
     // one answer, whatever the work held before
     ensures answer { Answers result (answer_of robot.now state.now) (accelerations_in robot.now work.new) }
 
-    // the equations of motion of each choice have exactly one solution with its torques, and it lies in the values
+    // the equations of motion of each choice have exactly one solution with its torques, and it lies in the values, with joint forces by the first IA and p
     ensures encloses { OnOk result (EnclosesForward robot.now state.now work.new) }
 
     // all else is as it was

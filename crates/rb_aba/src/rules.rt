@@ -5,7 +5,7 @@ ghost use Rattle.rb_num.specs.Arith.{intervals, interval_field};
 ghost use Rattle.rb_articulated.specs.Rules.{vector_and as vector_and_of, and_multiple, less_power as less_power_of, vector_over as vector_over_of, over as over_of};
 ghost use Rattle.rb_aba.specs.Articulated.{give_way as give_way_of};
 
-use rb_num::{Iv, NumFault, dot};
+use rb_num::{Iv, NumFault};
 use rb_spatial::{Force, Inertia6, Motion, Vec3, less_outer, power};
 
 // a + k b
@@ -14,9 +14,9 @@ fn vector_and(a: &Vec3, k: Iv, b: &Vec3) -> Result<Vec3, NumFault>
     ensures exact { result ≡ vector_and_of intervals a.now k b.now }
     ensures size { IfErr result (λ e. e ≡ NumFault.Size) }
 {
-    let x = dot(&[(a.x(), Iv::ONE), (b.x(), k)])?;
-    let y = dot(&[(a.y(), Iv::ONE), (b.y(), k)])?;
-    let z = dot(&[(a.z(), Iv::ONE), (b.z(), k)])?;
+    let x = a.x().plus_product(b.x(), k)?;
+    let y = a.y().plus_product(b.y(), k)?;
+    let z = a.z().plus_product(b.z(), k)?;
     Ok(Vec3::new(x, y, z))
 }
 

@@ -1,4 +1,4 @@
-use Rattle.rb_aba.proofs.RowAnswer.{one_answer, answer_means}
+use Rattle.rb_aba.proofs.RowMeans.{one_answer, answer_means}
 use Rattle.rb_aba.proofs.ForwardEncloses.{forward_encloses}
 use Rattle.rb_aba.proofs.laws.answer_law.Goals as goal
 

@@ -1,6 +1,7 @@
 use Rattle.std.proofs.lemmas.Result.{err_from_is_err_and, on_ok_weaker}
 use Rattle.rb_aba.proofs.ForwardEncloses.{forward_encloses}
-use Rattle.rb_aba.proofs.RowAnswer.{answer_refused, told_answer}
+use Rattle.rb_aba.proofs.RowAnswer.{answer_refused}
+use Rattle.rb_aba.proofs.RowMeans.{told_answer}
 use Rattle.rb_aba.proofs.RowRun.{places_refused}
 use Rattle.rb_aba.proofs.row.aba.Goals as goal
 
