@@ -11,10 +11,12 @@ use Rattle.rb_spatial.specs.Inertias.{times}
 use Rattle.rb_work.specs.declared.names.Name.{Name}
 use Rattle.rb_work.specs.declared.names.NameKind.TheVariants as K
 use Rattle.rb_work.specs.declared.names.RowFault.{RowFault}
+use Rattle.rb_work.specs.declared.names.RowFault.TheVariants.{Size}
+use Rattle.rb_result.proofs.Results.{same_err}
 use Rattle.rb_work.specs.Names.{one, named_as, pivot_as}
 use Rattle.rb_work.specs.Path.{packed_place}
 use Rattle.rb_work.specs.View.{View}
-use Rattle.rb_sweep.specs.Sweep.{sweep, downward}
+use Rattle.rb_sweep.specs.Sweep.{Answers, sweep, downward}
 use Rattle.rb_sweep.proofs.SweepSteps.{sweep_down_refused}
 use Rattle.rb_tree.specs.declared.robot.Body.{Body}
 use Rattle.rb_tree.specs.declared.robot.Mimic.{Mimic}
@@ -66,6 +68,17 @@ named_was n m r q step answer e f h k = sym (h ∙ ap (λ x. named_as x q) e ∙
 
 pub pivot_was : (n m : Name) (v : Interval) (step answer : Result Interval RowFault) → m ≡ n → step ≡ pivot_as m v → step ≡ answer → pivot_as n v ≡ answer
 pivot_was n m v step answer e h k = sym (h ∙ ap (λ x. pivot_as x v) e) ∙ k
+
+-- the same of a step that leaves its value in a place
+pub named_left : {A S : Type 0} (n m : Name) (r : Result A NumFault) (rule : Result S NumFault) (s : S) (step : Result A RowFault) (x : A) → m ≡ n → Answers r rule s → step ≡ named_as m r → step ≡ Ok x
+    → named_as n rule ≡ Ok s
+named_left n m (Ok y) rule s step x e a h k = ap (named_as n) a
+named_left n m (Err d) rule s step x e a h k = absurd cc
+
+pub named_refused : {A S : Type 0} (n m : Name) (r : Result A NumFault) (rule : Result S NumFault) (s : S) (step : Result A RowFault) (fault : RowFault) → m ≡ n → Answers r rule s → step ≡ named_as m r
+    → step ≡ Err fault → named_as n rule ≡ Err fault
+named_refused n m (Ok y) rule s step fault e a h k = absurd cc
+named_refused {A} n m (Err d) rule s step fault e a h k = let told : Size m ≡ fault = same_err {A = A} (Size m) fault (sym h ∙ k) in ap (named_as n) a ∙ ap (λ q. Err (Size q)) (sym e) ∙ ap (λ f. Err f) told
 
 -- ---- a column gives way
 module _ (c : ℕ) (axis : Motion Interval) (torque : Interval) (w : View) (rest : Rest) (U : Force Interval) (P D u : Interval)

@@ -127,11 +127,10 @@ fn column_gives(
     let along = named(power(axis, &force), Name::one(NameKind::D, c))?;
     let divisor = pivot(along, Name::one(NameKind::D, c))?;
     let left = named(less_power(torque, axis, &rest.1), Name::one(NameKind::u, c))?;
-    let next = named(
+    named(
         give_way(&force, divisor, left, rest),
         Name::one(NameKind::u, c),
     )?;
-    *rest = next;
     work.set_U(c, force);
     work.set_D(c, divisor);
     work.set_u(c, left);

@@ -2,6 +2,7 @@
 
 ghost use Rattle.std.specs.Prelude.{◌≡◌, IfErr};
 ghost use Rattle.rb_num.specs.Arith.{intervals, interval_field};
+ghost use Rattle.rb_sweep.specs.Sweep.{Answers};
 ghost use Rattle.rb_articulated.specs.Rules.{vector_and as vector_and_of, and_multiple, less_power as less_power_of, vector_over as vector_over_of, over as over_of};
 ghost use Rattle.rb_aba.specs.Articulated.{give_way as give_way_of};
 
@@ -78,12 +79,12 @@ pub(crate) fn give_way(
     force: &Force,
     pivot: Iv,
     left: Iv,
-    rest: &(Inertia6, Force),
-) -> Result<(Inertia6, Force), NumFault>
-    ensures exact { result ≡ give_way_of force.now pivot left rest.now }
+    rest: &mut (Inertia6, Force),
+) -> Result<(), NumFault>
+    ensures exact { Answers result (give_way_of force.now pivot left rest.old) rest.new }
 {
     let share = over(force, pivot)?;
-    let inertia = less_outer(&rest.0, force, &share)?;
-    let bias = force_and(&rest.1, left, &share)?;
-    Ok((inertia, bias))
+    rest.0 = less_outer(&rest.0, force, &share)?;
+    rest.1 = force_and(&rest.1, left, &share)?;
+    Ok(())
 }
