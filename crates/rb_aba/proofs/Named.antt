@@ -3,7 +3,11 @@ use Rattle.std.proofs.Common.{◌≡◌, ◌≢◌, ◌==◌, ◌+◌, ◌-◌, 
 use Rattle.std.specs.List.{list_any}
 use Rattle.std.specs.Option.{option_map_or}
 use Rattle.rb_num.specs.declared.interval.NumFault.{NumFault}
-use Rattle.rb_num.specs.Interval.{Interval}
+use Rattle.rb_num.specs.Interval.{Interval, zero_interval, one_interval}
+use Rattle.rb_num.specs.Narrow.{IsNarrow}
+use Rattle.rb_num.specs.Dot.{iv_dot}
+use Rattle.rb_num.proofs.Zeros.{dot-zero_first}
+use Rattle.rb_joint.proofs.AxisTurns.{one_times}
 use Rattle.rb_num.specs.Arith.{intervals}
 use Rattle.rb_frac.specs.Spatial.{Motion, Force, Inertia}
 use Rattle.rb_spatial.specs.Motions.{power}
@@ -61,6 +65,10 @@ pub down_refused : {S E : Type 0} (step : ℕ → S → Result S E) (lo hi : ℕ
 down_refused step lo hi s e whole l r same =
     let h : hi ≡ hi - 1 + 1 = omega arith in
     sym same ∙ ap (λ k. sweep step (downward lo k) s) h ∙ sweep_down_refused step lo (hi - 1) s e (omega arith) r
+
+-- ---- nothing is added
+pub plus_zero : (a b k : Interval) → b ≡ zero_interval → IsNarrow a.lo a.hi → Ok a ≡ iv_dot ((a, one_interval) ∷ (b, k) ∷ [])
+plus_zero a b k h n = one_times a n ∙ sym (dot-zero_first k ((a, one_interval) ∷ []) []) ∙ ap (λ (v : Interval). iv_dot ((a, one_interval) ∷ (v, k) ∷ [])) (sym h)
 
 -- ---- a step under its name
 pub named_was : {A : Type 0} (n m : Name) (r q : Result A NumFault) (step answer : Result A RowFault) → m ≡ n → q ≡ r → step ≡ named_as m q → step ≡ answer → named_as n r ≡ answer

@@ -4,6 +4,8 @@ ghost use Rattle.std.specs.Prelude.{◌≡◌, ◌+◌, ◌<◌, ◌≤◌, leng
 ghost use Rattle.rb_num.specs.Arith.{intervals};
 ghost use Rattle.rb_spatial.specs.Inertias.{table};
 ghost use Rattle.rb_sweep.specs.Sweep.{Answers, sweep, downward};
+ghost use Rattle.rb_flat.specs.Joint.{column_count as column_count_of};
+ghost use Rattle.rb_joint.specs.Any.{kind_of, any_column};
 ghost use Rattle.rb_work.specs.View.{columns_of as columns_in};
 ghost use Rattle.rb_tree.specs.Columns.{column_count, has_mimic};
 ghost use Rattle.rb_tree.specs.Numbers.{inertia_at as own_inertia_at};
@@ -13,11 +15,12 @@ ghost use Rattle.rb_rnea.specs.Rates.{joint_columns};
 ghost use Rattle.rb_aba.specs.Articulated.{HasJointColumn, column_of, join_inertia, join_bias, add_inertia, add_bias, own_bias as own_bias_of, bias_by, handed_with};
 ghost use Rattle.rb_aba.specs.Steps.{giving, giving_in, column_by, columns_of, first_step, handed_by, up_step, ups_of};
 
-use crate::rules::{give_way, less_power};
+use crate::rules::{give_way, less_along, power_along};
+use rb_joint::AnyJoint;
 use rb_num::{Iv, NumFault};
 use rb_rnea::moved_along;
 use rb_spatial::{
-    Force, Inertia6, Motion, apply_dual, carry, cross_dual, power, sum, sum_forces, table, times,
+    Force, Inertia6, Motion, apply_dual, carry, cross_dual, sum, sum_forces, table, times,
     times_body,
 };
 use rb_tree::{Robot, State};
@@ -112,21 +115,31 @@ pub(crate) fn column_number(robot: &Robot, i: u32, k: usize) -> u32
 // A column gives way: what its values are, and what is left of the inertia and the bias.
 #[tactic(auto, unfolding(crate::specs::Steps::column_by))]
 fn column_gives(
+    joint: &AnyJoint,
+    k: usize,
     c: u32,
     axis: &Motion,
     torque: Iv,
     rest: &mut (Inertia6, Force),
     work: &mut Work,
 ) -> Result<(), RowFault>
+    requires column { k < column_count_of (kind_of joint.now) }
+    requires axis { axis.now ≡ any_column joint.now k }
     requires from { 1 ≤ c }
     requires to { c ≤ columns_in work.old }
     ensures step { Answers result (column_by c axis.now torque (giving work.old rest.old)) (giving work.new rest.new) }
     ensures others { work.new ≡ record work.old { U = work.new.U; packed = work.new.packed; u = work.new.u } }
 {
     let force = named(times(&rest.0, axis), Name::one(NameKind::U, c))?;
-    let along = named(power(axis, &force), Name::one(NameKind::D, c))?;
+    let along = named(
+        power_along(joint, k, axis, &force),
+        Name::one(NameKind::D, c),
+    )?;
     let divisor = pivot(along, Name::one(NameKind::D, c))?;
-    let left = named(less_power(torque, axis, &rest.1), Name::one(NameKind::u, c))?;
+    let left = named(
+        less_along(torque, joint, k, axis, &rest.1),
+        Name::one(NameKind::u, c),
+    )?;
     named(
         give_way(&force, divisor, left, rest),
         Name::one(NameKind::u, c),
@@ -160,7 +173,7 @@ fn columns_give(
         let c = column_number(robot, i, k);
         let axis = joint.column(k);
         let torque = state.tau(c as usize - 1);
-        column_gives(c, &axis, torque, rest, work)?;
+        column_gives(joint, k, c, &axis, torque, rest, work)?;
     }
     Ok(())
 }
