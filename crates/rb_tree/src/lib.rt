@@ -32,18 +32,3 @@ pub use rb_urdf::UrdfRobot;
 pub use robot::{Body, Mimic, Robot};
 pub use sizes::{MAX_COLUMNS, MAX_LINKS};
 pub use state::{NoState, State};
-
-#[cfg(test)]
-mod body_tests;
-#[cfg(test)]
-mod build_tests;
-#[cfg(test)]
-mod group_tests;
-#[cfg(test)]
-mod place_tests;
-#[cfg(test)]
-mod robot_tests;
-#[cfg(test)]
-mod state_tests;
-#[cfg(test)]
-mod tests;

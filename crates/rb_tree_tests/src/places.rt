@@ -3,10 +3,11 @@ ghost use Rattle.std.specs.Prelude.{IfOk};
 ghost use Rattle.rb_tree.specs.Places.{IsFor};
 ghost use Rattle.rb_tree.specs.State.{Fits};
 
-use crate::robot_tests::{BOX, robot_on};
-use crate::{Iv, Robot, RootKind, State, Vec3, place_all};
-use rb_num::S;
-use rb_spatial::{Mat3, Place};
+use crate::robots::{BOX, robot_on};
+use rb_num::{Iv, S};
+use rb_spatial::{Mat3, Place, Vec3};
+use rb_tags::RootKind;
+use rb_tree::{Robot, State, place_all};
 use rb_work::{Capitals, Name, NameKind, RowFault, Work};
 use std::alloc::{AllocError, Global};
 use std::test::Fail;

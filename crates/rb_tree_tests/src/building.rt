@@ -1,7 +1,7 @@
 //! Robots built with a second file: the joint of the root, and refusals one before another, with places counted by hand.
-use super::*;
 use rb_srdf::read_srdf;
-use rb_tags::read_tags;
+use rb_tags::{RootKind, read_tags};
+use rb_tree::{Robot, TreeFault, TreeKind, UrdfKind, WhichFile};
 use rb_urdf::read_urdf;
 use std::alloc::Global;
 use std::test::*;

@@ -1,19 +1,15 @@
 //! Bodies of robot files: one beside that which is made by hand, and those whose joints follow others.
-use crate::robot::{Body, Mimic};
-use crate::robot_tests::robot_on;
-use crate::{
-    AnyJoint, BodyInertia, Iv, JointRaw, LinkRaw, Robot, TreeFault, TreeKind, UrdfKind, Vec3,
+use crate::robots::{BOX, robot_on};
+use rb_joint::Fixed;
+use rb_num::Iv;
+use rb_spatial::{Frame, Mat3, Vec3};
+use rb_tags::Text;
+use rb_tree::{
+    AnyJoint, Body, BodyInertia, JointRaw, LinkRaw, Mimic, Robot, TreeFault, TreeKind, UrdfKind,
     WhichFile,
 };
-use rb_joint::Fixed;
-use rb_spatial::{Frame, Mat3};
-use rb_tags::{Text, read_tags};
-use rb_urdf::read_urdf;
 use std::alloc::{AllocError, Global};
 use std::test::*;
-
-const BOX: &str =
-    "<robot name='box'><link name='box'><inertial><mass value='1'/><inertia ixx='1' iyy='1' izz='1'/></inertial></link></robot>";
 
 const ZEROS: [Iv; 3] = [Iv::ZERO, Iv::ZERO, Iv::ZERO];
 
@@ -57,15 +53,28 @@ fn box_named(alloc: Global, link: &str) -> Result<Body, AllocError> {
     })
 }
 
+// Whether this is what the robot tells of body 1.
+fn is_first(robot: &Robot, body: &Body) -> bool {
+    robot.bodies() > 0
+        && robot.parent(1) == body.parent
+        && *robot.joint(1) == body.joint
+        && *robot.inertia(1) == body.inertia
+        && robot.link_name(1) == body.link_name.as_str().as_bytes()
+        && robot.joint_name(1) == body.joint_name.as_str().as_bytes()
+        && *robot.link_raw(1) == body.link_raw
+        && *robot.joint_raw(1) == body.joint_raw
+        && robot.mimic_of(1) == body.mimic
+}
+
 #[test]
 fn bodies_are_compared(rt: HostRuntime) -> Result<(), Fail> {
     let alloc = rt.alloc();
-    let tags = read_tags(alloc, BOX.as_bytes()).ok().ok_or("tags")?;
-    let urdf = read_urdf(alloc, &tags).ok().ok_or("a robot")?;
-    let robot = Robot::build(alloc, &urdf, None, None).ok().ok_or("a tree")?;
-    let body = robot.body_list().first().ok_or("a body")?;
-    assert!(rt; *body == box_named(alloc, "box")?);
-    assert!(rt; *body != box_named(alloc, "lid")?);
+    let built = robot_on(alloc, BOX, None).ok_or("the box is read")?;
+    let robot = built.ok().ok_or("the box is built")?;
+    let body = box_named(alloc, "box")?;
+    assert!(rt; is_first(&robot, &body));
+    assert!(rt; body == box_named(alloc, "box")?);
+    assert!(rt; body != box_named(alloc, "lid")?);
     Ok(())
 }
 

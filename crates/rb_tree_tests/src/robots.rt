@@ -1,8 +1,13 @@
+//! Robots of one file, their constants and their neutral states.
 ghost use Rattle.rb_tree.specs.State.{Fits};
 
-use super::*;
-use rb_num::S;
-use rb_tags::read_tags;
+use rb_num::{Iv, S};
+use rb_spatial::Vec3;
+use rb_tags::{RootKind, read_tags};
+use rb_tree::{
+    AnyJoint, Robot, State, TreeFault, TreeKind, UrdfKind, WhichFile, column_suffixes,
+    entry_suffixes,
+};
 use rb_urdf::read_urdf;
 use std::alloc::Global;
 use std::test::*;

@@ -1,8 +1,11 @@
+//! States that a second file names, and refusals of states with places counted by hand.
 ghost use Rattle.rb_tree.specs.State.{Fits};
 
-use super::*;
+use rb_num::Iv;
+use rb_spatial::Vec3;
 use rb_srdf::read_srdf;
 use rb_tags::read_tags;
+use rb_tree::{NoState, Robot, State, TreeFault, TreeKind, WhichFile};
 use rb_urdf::read_urdf;
 use std::alloc::Global;
 use std::test::*;

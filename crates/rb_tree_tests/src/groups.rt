@@ -1,6 +1,7 @@
-use super::*;
+//! The bodies of groups, and refusals of groups with places counted by hand.
 use rb_srdf::read_srdf;
 use rb_tags::read_tags;
+use rb_tree::{Robot, TreeFault, TreeKind, WhichFile};
 use rb_urdf::read_urdf;
 use std::alloc::Global;
 use std::test::*;
