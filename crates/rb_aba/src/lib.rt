@@ -8,6 +8,3 @@ mod row;
 mod rules;
 
 pub use row::aba;
-
-#[cfg(test)]
-mod tests;

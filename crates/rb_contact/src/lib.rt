@@ -6,6 +6,3 @@ pub mod laws;
 mod row;
 
 pub use row::forward;
-
-#[cfg(test)]
-mod tests;

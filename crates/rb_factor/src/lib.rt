@@ -8,6 +8,3 @@ mod solution;
 
 pub use factors::factor;
 pub use solution::{divide, reduce, solve, substitute};
-
-#[cfg(test)]
-mod tests;

@@ -14,6 +14,3 @@ mod row;
 pub use factors::{factor, solve};
 pub use meaning::table_law;
 pub use row::{composite, crba};
-
-#[cfg(test)]
-mod tests;

@@ -13,6 +13,3 @@ mod torques;
 pub use accelerations::{against_gravity, moved_along};
 pub use row::{bias, rnea};
 pub use speeds::sweep_speeds;
-
-#[cfg(test)]
-mod tests;

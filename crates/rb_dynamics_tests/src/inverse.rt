@@ -1,84 +1,11 @@
 //! Torques of small robots in closed form, and a refusal of each kind.
-ghost use Rattle.std.specs.Prelude.{IfOk};
-ghost use Rattle.rb_tree.specs.Places.{IsFor};
-ghost use Rattle.rb_tree.specs.State.{Fits};
-
-use crate::{bias, rnea};
+use crate::bench::{Given, LIFT, SLIDE, bench_of, exactly, robot_of};
 use rb_num::Iv;
-use rb_tags::{RootKind, read_tags};
-use rb_tree::{Robot, State};
-use rb_urdf::read_urdf;
+use rb_rnea::{bias, rnea};
+use rb_tags::RootKind;
 use rb_work::{Capitals, Name, NameKind, RowFault, Work};
-use std::alloc::{AllocError, Global};
+use std::alloc::Global;
 use std::test::*;
-
-// A number of a row that is not neutral: an entry from one end to the other, a speed or an acceleration, by place from 0 and in units of 10^-12.
-#[derive(Clone, Copy)]
-enum Given {
-    Entry(usize, i64, i64),
-    Speed(usize, i64),
-    Acceleration(usize, i64),
-}
-
-fn exactly(end: i64) -> Iv {
-    let end = i128::from(end);
-    Iv::new(end, end)
-}
-
-#[derive(Drop)]
-struct Bench {
-    robot: Robot,
-    state: State,
-    work: Work,
-}
-
-fn put(robot: &Robot, state: &mut State, given: Given)
-    requires { Fits robot.now state.old }
-    ensures { Fits robot.now state.new }
-{
-    let (entries, columns) = (robot.nq() as usize, robot.nv() as usize);
-    match given {
-        Given::Entry(k, from, to) if k < entries => state.set_q(k, exactly(from).hull(exactly(to))),
-        Given::Speed(k, speed) if k < columns => state.set_v(k, exactly(speed)),
-        Given::Acceleration(k, acceleration) if k < columns => {
-            state.set_a(k, exactly(acceleration))
-        }
-        _ => {}
-    }
-}
-
-fn put_all(robot: &Robot, state: &mut State, row: &[Given])
-    requires { Fits robot.now state.old }
-    ensures { Fits robot.now state.new }
-{
-    for given in row {
-        put(robot, state, *given);
-    }
-}
-
-fn work_for(alloc: Global, robot: &Robot) -> Result<Work, AllocError>
-    ensures { IfOk result (IsFor robot.now) }
-{
-    Work::new(alloc, robot.bodies(), robot.full(), robot.ups(), 0)
-}
-
-// The robot of a file with such a root; nothing if the file holds none.
-fn robot_of(alloc: Global, text: &str, root: Option<RootKind>) -> Option<Robot> {
-    let tags = read_tags(alloc, text.as_bytes()).ok()?;
-    let urdf = read_urdf(alloc, &tags).ok()?;
-    Robot::build(alloc, &urdf, None, root).ok()
-}
-
-// The robot with a row and a work.
-fn bench_of(alloc: Global, robot: Robot, row: &[Given]) -> Result<Bench, AllocError>
-    ensures fits { IfOk result (λ bench. Fits bench.robot bench.state) }
-    ensures room { IfOk result (λ bench. IsFor bench.robot bench.work) }
-{
-    let mut state = State::new(alloc, &robot)?;
-    put_all(&robot, &mut state, row);
-    let work = work_for(alloc, &robot)?;
-    Ok(Bench { robot, state, work })
-}
 
 // The torque of a column, after this answer; nothing if there is no such column.
 fn told(answer: Result<(), RowFault>, work: &Work, c: u32) -> Option<Result<Iv, RowFault>> {
@@ -110,9 +37,6 @@ fn held(alloc: Global, text: &str, row: &[Given], c: u32) -> Result<Result<Iv, R
     let answer = bias(&b.robot, &b.state, &mut b.work);
     Ok(told(answer, &b.work, c).ok_or("there is such a column")?)
 }
-
-const LIFT: &str =
-    "<robot name='lift'><link name='base'/><link name='car'><inertial><mass value='2'/></inertial></link><joint name='lift' type='prismatic'><parent link='base'/><child link='car'/><axis xyz='0 0 1'/></joint></robot>";
 
 // m (g + a) = 2 (9.81 + 1.5)
 #[test]
@@ -227,10 +151,6 @@ const FAR: &str =
 // A load of 120000 kg, 1200000 m ahead of its base.
 const AHEAD: &str =
     "<robot name='ahead'><link name='base'/><link name='load'><inertial><mass value='120000'/></inertial></link><joint name='mount' type='fixed'><parent link='base'/><child link='load'/><origin xyz='1200000 0 0'/></joint></robot>";
-
-// A slide whose axis may have any length from 10^-6 to 1: its column may be up to 10^6 long.
-const SLIDE: &str =
-    "<robot name='slide'><link name='base'/><link name='load'><inertial><mass value='150000'/></inertial></link><joint name='slide' type='prismatic'><parent link='base'/><child link='load'/><axis xyz='0 0 0.000001..1'/></joint></robot>";
 
 // Two such numbers have a product above 2^120 units of 10^-24, which is about 1.33 * 10^12.
 const MUCH: i64 = 1_200_000_000_000_000_000;

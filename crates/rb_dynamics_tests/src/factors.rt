@@ -2,7 +2,8 @@
 ghost use Rattle.std.specs.Prelude.{◌≡◌, IfOk};
 ghost use Rattle.rb_work.specs.View.{extent_of};
 
-use crate::{factor, solve};
+use crate::bench::whole;
+use rb_factor::{factor, solve};
 use rb_num::Iv;
 use rb_work::{Capitals, Name, NameKind, RowFault, Work, ascends};
 use std::alloc::Global;
@@ -15,11 +16,6 @@ fn made(alloc: Global, up: &[u32]) -> Result<Work, Fail>
     ascends(up).then_some(()).ok_or("columns")?;
     (up.len() <= 64).then_some(()).ok_or("columns")?;
     Ok(Work::new(alloc, 0, 64, up, 0)?)
-}
-
-fn whole(number: i32) -> Iv {
-    let units = i128::from(number) * 1_000_000_000_000;
-    Iv::new(units, units)
 }
 
 // The entry of a column and one on its path.

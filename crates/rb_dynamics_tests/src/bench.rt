@@ -1,0 +1,115 @@
+//! A robot with a row and a work, and the texts of small robots.
+ghost use Rattle.std.specs.Prelude.{IfOk};
+ghost use Rattle.rb_tree.specs.Places.{IsFor};
+ghost use Rattle.rb_tree.specs.State.{Fits};
+
+use rb_num::{B, Iv};
+use rb_tags::{RootKind, read_tags};
+use rb_tree::{Robot, State};
+use rb_urdf::read_urdf;
+use rb_work::Work;
+use std::alloc::{AllocError, Global};
+
+// A number of a row that is not neutral, by place from 0: an entry from one end to the other, a speed, an acceleration or a torque, in units of
+// 10^-12.
+#[derive(Clone, Copy)]
+pub(crate) enum Given {
+    Entry(usize, i64, i64),
+    Speed(usize, i64),
+    Acceleration(usize, i64),
+    Torque(usize, i128),
+}
+
+#[derive(Drop)]
+pub(crate) struct Bench {
+    pub(crate) robot: Robot,
+    pub(crate) state: State,
+    pub(crate) work: Work,
+}
+
+// A number in units of 10^-12.
+pub(crate) fn exactly(end: i64) -> Iv {
+    let end = i128::from(end);
+    Iv::new(end, end)
+}
+
+// A whole number.
+pub(crate) fn whole(number: i32) -> Iv {
+    let units = i128::from(number) * 1_000_000_000_000;
+    Iv::new(units, units)
+}
+
+fn put(robot: &Robot, state: &mut State, given: Given)
+    requires { Fits robot.now state.old }
+    ensures { Fits robot.now state.new }
+{
+    let (entries, columns) = (robot.nq() as usize, robot.nv() as usize);
+    match given {
+        Given::Entry(k, from, to) if k < entries => state.set_q(k, exactly(from).hull(exactly(to))),
+        Given::Speed(k, speed) if k < columns => state.set_v(k, exactly(speed)),
+        Given::Acceleration(k, acceleration) if k < columns => {
+            state.set_a(k, exactly(acceleration))
+        }
+        Given::Torque(k, torque) if k < columns && -B <= torque && torque <= B => {
+            state.set_tau(k, Iv::new(torque, torque))
+        }
+        _ => {}
+    }
+}
+
+fn put_all(robot: &Robot, state: &mut State, row: &[Given])
+    requires { Fits robot.now state.old }
+    ensures { Fits robot.now state.new }
+{
+    for given in row {
+        put(robot, state, *given);
+    }
+}
+
+fn work_for(alloc: Global, robot: &Robot) -> Result<Work, AllocError>
+    ensures { IfOk result (IsFor robot.now) }
+{
+    Work::new(alloc, robot.bodies(), robot.full(), robot.ups(), 0)
+}
+
+// The robot of a file with such a root; nothing if the file holds none.
+pub(crate) fn robot_of(alloc: Global, text: &str, root: Option<RootKind>) -> Option<Robot> {
+    let tags = read_tags(alloc, text.as_bytes()).ok()?;
+    let urdf = read_urdf(alloc, &tags).ok()?;
+    Robot::build(alloc, &urdf, None, root).ok()
+}
+
+// The robot with a row and a work.
+pub(crate) fn bench_of(alloc: Global, robot: Robot, row: &[Given]) -> Result<Bench, AllocError>
+    ensures fits { IfOk result (λ bench. Fits bench.robot bench.state) }
+    ensures room { IfOk result (λ bench. IsFor bench.robot bench.work) }
+{
+    let mut state = State::new(alloc, &robot)?;
+    put_all(&robot, &mut state, row);
+    let work = work_for(alloc, &robot)?;
+    Ok(Bench { robot, state, work })
+}
+
+// A car of 2 kg on a vertical slide.
+pub(crate) const LIFT: &str =
+    "<robot name='lift'><link name='base'/><link name='car'><inertial><mass value='2'/></inertial></link><joint name='lift' type='prismatic'><parent link='base'/><child link='car'/><axis xyz='0 0 1'/></joint></robot>";
+
+// Two slides of 1 kg, the second on the first.
+pub(crate) const STACK: &str =
+    "<robot name='stack'><link name='base'/><link name='l1'><inertial><mass value='1'/></inertial></link><link name='l2'><inertial><mass value='1'/></inertial></link><joint name='one' type='prismatic'><parent link='base'/><child link='l1'/></joint><joint name='two' type='prismatic'><parent link='l1'/><child link='l2'/></joint></robot>";
+
+// The second slide follows the first, so that it moves twice as far: 1 + 4 kg.
+pub(crate) const PAIR: &str =
+    "<robot name='pair'><link name='base'/><link name='l1'><inertial><mass value='1'/></inertial></link><link name='l2'><inertial><mass value='1'/></inertial></link><joint name='one' type='prismatic'><parent link='base'/><child link='l1'/></joint><joint name='two' type='prismatic'><parent link='l1'/><child link='l2'/><mimic joint='one'/></joint></robot>";
+
+// Nothing hangs at the hinge.
+pub(crate) const LEAF: &str =
+    "<robot name='leaf'><link name='base'/><link name='tip'/><joint name='hinge' type='revolute'><parent link='base'/><child link='tip'/><axis xyz='0 1 0'/></joint></robot>";
+
+// A slide that follows another 10^12 fold.
+pub(crate) const FAR: &str =
+    "<robot name='far'><link name='base'/><link name='near'/><link name='far'><inertial><mass value='1'/></inertial></link><joint name='one' type='prismatic'><parent link='base'/><child link='near'/></joint><joint name='two' type='prismatic'><parent link='near'/><child link='far'/><mimic joint='one' multiplier='1000000000000'/></joint></robot>";
+
+// A slide whose axis may have any length from 10^-6 to 1: its column may be up to 10^6 long.
+pub(crate) const SLIDE: &str =
+    "<robot name='slide'><link name='base'/><link name='load'><inertial><mass value='150000'/></inertial></link><joint name='slide' type='prismatic'><parent link='base'/><child link='load'/><axis xyz='0 0 0.000001..1'/></joint></robot>";

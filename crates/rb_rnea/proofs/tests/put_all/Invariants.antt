@@ -1,5 +1,0 @@
-use Rattle.rb_tree.specs.State.{Fits}
-use Rattle.rb_rnea.proofs.tests.put_all.Given as goal
-
-abbrev pub invariant-loop-given : goal.invariant-loop-given
-invariant-loop-given l = Fits l.robot l.state
