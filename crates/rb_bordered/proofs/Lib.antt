@@ -5,3 +5,5 @@ pub mod Rows
 pub mod Table
 pub mod Numbers
 pub mod Solves
+pub mod Coupling
+pub mod Exists
