@@ -1,0 +1,4 @@
+pub mod Rules
+pub mod Descent
+pub mod Entries
+pub mod Speeds
