@@ -2,3 +2,5 @@ pub mod Rules
 pub mod Descent
 pub mod Entries
 pub mod Speeds
+pub mod Accelerations
+pub mod Torques

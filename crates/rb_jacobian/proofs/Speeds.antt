@@ -8,6 +8,7 @@ use Rattle.rb_frac.specs.Tables.{Table, row}
 use Rattle.rb_frac.specs.Spatial.{Spatial, Motion, Force}
 use Rattle.rb_frac.specs.Mechanics.{power_of}
 use Rattle.rb_frac.proofs.Ring.{expr, var}
+use Rattle.rb_frac.proofs.Reduce.{same_refl}
 use Rattle.rb_frac.proofs.Rational.{ℚ, ◌+ℚ◌, ◌*ℚ◌, neg_ℚ, 0ℚ, qo, rats, cls, sound, exact, cls-rep, cls-zero, mul_comm_ℚ}
 use Rattle.rb_frac.proofs.Hom.{frac_ring, cls_of_add, cls_of_neg, cls_of_mul}
 use Rattle.rb_frac.proofs.Quote.{with3, finish, quote}
@@ -136,7 +137,7 @@ has_jacobian shape m k turn parents fits =
       second = second;
       firsts = λ r hr. are_entries shape m parents (k.row r).first (first_vector k turn r) (fits r hr).first;
       seconds = λ r hr. are_entries shape m parents (k.row r).second (second_vector k turn r) (fits r hr).second;
-      each = λ r c hr hc. exact _ _ refl;
+      each = λ r c hr hc. same_refl (over_joints shape (λ i l. mul (share shape m c i l) (minus fracs (first r i l) (second r i l))));
     })
 
 pub jacobian_is_one : JacobianIsOne
