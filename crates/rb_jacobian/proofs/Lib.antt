@@ -4,3 +4,5 @@ pub mod Entries
 pub mod Speeds
 pub mod Accelerations
 pub mod Torques
+pub mod Turns
+pub mod Contact
