@@ -1,12 +1,12 @@
 -- The Jacobian gives the accelerations of the rows, but for the bias.
-use Rattle.std.proofs.Common.{◌≡◌, ℕ, zero, suc, ◌≤◌, Bool, true, false, [], ◌∷◌, refl, sym, ◌∙◌, ap, arith}
+use Rattle.std.proofs.Common.{◌≡◌, ℕ, suc, Bool, true, false, [], refl, sym, ◌∙◌, ap, arith}
 use mathlib.Core.Path.{ap₂}
 use Rattle.rb_frac.specs.Ops.{V3, signs, minus, vadd, vscale, vdot, vcross, sum as sum_of}
 use Rattle.rb_frac.specs.Frac.{Frac, Same, fracs, add, neg, mul}
 use Rattle.rb_frac.specs.Tables.{Table, Symmetric, nothing, row, table_times}
 use Rattle.rb_frac.specs.Spatial.{Spatial, Motion, Force, Spatials}
 use Rattle.rb_frac.specs.Mechanics.{plus, scaled, combined, in_body, motion_product, power_of, newton, euler, needed}
-use Rattle.rb_frac.proofs.Ring.{Expr, expr, var, mul_nul}
+use Rattle.rb_frac.proofs.Ring.{Expr, expr, mul_nul}
 use Rattle.rb_frac.proofs.Reduce.{same_refl}
 use Rattle.rb_frac.proofs.Rational.{ℚ, ◌+ℚ◌, ◌*ℚ◌, neg_ℚ, 0ℚ, qo, rats, cls, sound, exact, cls-zero, add_comm, add_nul}
 use Rattle.rb_frac.proofs.Hom.{frac_ring, cls_of_add, cls_of_neg, cls_of_mul}
@@ -14,9 +14,9 @@ use Rattle.rb_frac.proofs.Quote.{with4, finish, quote}
 use Rattle.rb_frac.proofs.Sums.{sum, sum_ext}
 use Rattle.rb_frac.proofs.Transfer.{cls-sum}
 use Rattle.rb_frac.proofs.Variables.{vector, spatial, of_vector, of_spatial, at, identity}
-use Rattle.rb_flat.specs.Shape.{Shape, HasBody, HasColumn, ParentsComeFirst, ColumnsFit}
+use Rattle.rb_flat.specs.Shape.{Shape, HasColumn, ParentsComeFirst, ColumnsFit}
 use Rattle.rb_flat.specs.Mechanism.{Mechanism}
-use Rattle.rb_flat.specs.Dynamics.{Unknowns, none, joint_motion, Moves, InverseDynamics, unaccelerated}
+use Rattle.rb_flat.specs.Dynamics.{Unknowns, none, joint_motion, Moves}
 use Rattle.rb_flat.specs.Contact.{Constraints, HasRow, RowsFit, point_speed, point_acceleration, row_speed, row_acceleration}
 use Rattle.rb_flat.proofs.Equality.{same_fractions, spatials_refl, spatials_sym, spatials_trans, plus_same, scaled_same, motion_product_same, needed_same}
 use Rattle.rb_flat.proofs.Linear.{blend, in_body-linear, plus-linear, plus-none, joint_motion-linear}

@@ -1,28 +1,26 @@
 -- A tree moves under the forces of rows exactly where its accelerations and these forces solve the bordered equations.
-use Rattle.std.proofs.Common.{◌≡◌, ℕ, zero, suc, ◌≤◌, refl, sym, ◌∙◌, ap, arith}
-use mathlib.Core.Path.{ap₂}
+use Rattle.std.proofs.Common.{◌≡◌, ℕ, suc, ◌≤◌, refl, sym, ◌∙◌, ap, arith}
 use Rattle.rb_frac.specs.Ops.{sum as sum_of}
 use Rattle.rb_frac.specs.Frac.{Frac, Same, fracs, add, sub, mul}
 use Rattle.rb_frac.specs.Tables.{Table, Tables}
 use Rattle.rb_frac.specs.Spatial.{Force}
 use Rattle.rb_frac.proofs.Reduce.{same_refl, same_sym, same_trans}
-use Rattle.rb_frac.proofs.Rational.{ℚ, ◌+ℚ◌, neg_ℚ, qo, cls, sound, exact, add_same, mul_same}
+use Rattle.rb_frac.proofs.Rational.{ℚ, ◌+ℚ◌, neg_ℚ, cls, sound, exact, add_same, mul_same}
 use Rattle.rb_frac.proofs.Hom.{cls_of_add, cls_of_sub}
 use Rattle.rb_frac.proofs.Quote.{with3, finish, quote}
-use Rattle.rb_frac.proofs.Sums.{sum}
 use Rattle.rb_frac.proofs.Transfer.{cls-sum}
-use Rattle.rb_flat.specs.Shape.{Shape, HasBody, HasColumn, MimicsFit, ParentsComeFirst, ColumnsFit}
+use Rattle.rb_flat.specs.Shape.{Shape, HasColumn, MimicsFit, ParentsComeFirst, ColumnsFit}
 use Rattle.rb_flat.specs.Mechanism.{Mechanism}
-use Rattle.rb_flat.specs.Dynamics.{Unknowns, Moves, InverseDynamics, ForwardDynamics, no_force, unaccelerated, IsMassTable}
+use Rattle.rb_flat.specs.Dynamics.{Unknowns, Moves, InverseDynamics, no_force, unaccelerated, IsMassTable}
 use Rattle.rb_flat.specs.Contact.{Constraints, HasRow, RowsFit, rows_on, AreTurns, ContactUnknowns, ContactDynamics, SameContact}
 use Rattle.rb_flat.proofs.Equality.{same_fractions, sum_same}
 use Rattle.rb_flat.proofs.OneSolution.{has_one_solution, moves_agree}
 use Rattle.rb_flat.proofs.Superposed.{other_accelerations, torque_is_linear}
 use Rattle.rb_jacobian.specs.Jacobian.{row_accelerations, IsJacobian}
-use Rattle.rb_jacobian.specs.Laws.{IsBordered, IsOneBordered, ContactIsBordered, MovesWith, ContactFromBordered, MovesOnlyWith, ContactHasOneSolution}
+use Rattle.rb_jacobian.specs.Laws.{IsBordered, IsOneBordered, ContactIsBordered, MovesWith, ContactFromBordered, ContactHasOneSolution}
 use Rattle.rb_jacobian.proofs.Accelerations.{jacobian_gives_accelerations}
 use Rattle.rb_jacobian.proofs.Torques.{torques_are}
-use Rattle.rb_jacobian.proofs.Turns.{tables_refl, tables_sym, tables_trans, turns_are_one, rows_on_same, row_accelerations_same, other_outside}
+use Rattle.rb_jacobian.proofs.Turns.{tables_refl, tables_sym, turns_are_one, rows_on_same, row_accelerations_same, other_outside}
 
 -- ---- numbers
 alone : (b p x : ℚ) → (((b +ℚ neg_ℚ p) +ℚ x) +ℚ neg_ℚ b) +ℚ p ≡ x

@@ -1,12 +1,10 @@
 -- What goes down a tree, from the world on: motions at rates of the columns.
-use Rattle.std.proofs.Common.{◌≡◌, ℕ, zero, suc, ◌+◌, ◌<◌, ◌≤◌, arith}
+use Rattle.std.proofs.Common.{ℕ, zero, suc, ◌+◌, ◌<◌, ◌≤◌, arith}
 use Rattle.rb_frac.specs.Frac.{Frac, Same, fracs}
 use Rattle.rb_frac.specs.Spatial.{Motion, Force, Motions}
-use Rattle.rb_frac.specs.Mechanics.{plus, in_body}
 use Rattle.rb_flat.specs.Shape.{Shape, HasBody, HasColumn, ParentsComeFirst, ColumnsFit}
-use Rattle.rb_flat.specs.Joint.{column_count}
 use Rattle.rb_flat.specs.Mechanism.{Mechanism}
-use Rattle.rb_flat.specs.Dynamics.{Unknowns, none, joint_motion, Moves, InverseDynamics, no_force, at_unit}
+use Rattle.rb_flat.specs.Dynamics.{Unknowns, joint_motion, Moves, InverseDynamics, no_force, at_unit}
 use Rattle.rb_flat.proofs.Equality.{same_fractions, spatials_refl, spatials_sym, spatials_trans, plus_same, in_body_same, motion_product_same}
 use Rattle.rb_flat.proofs.OneSolution.{has_one_solution, same_motion_of}
 use Rattle.rb_flat.proofs.Superposed.{Added, unit_adds, other_accelerations}

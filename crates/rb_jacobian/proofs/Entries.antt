@@ -1,18 +1,18 @@
 -- The entries of a force on a body, and what the rates of the columns make of them.
-use Rattle.std.proofs.Common.{◌≡◌, ℕ, zero, suc, ◌+◌, ◌-◌, ◌<◌, ◌≤◌, ◌==◌, Bool, true, false, if◌then◌else◌, Option, None, Some, refl, sym, ◌∙◌, ap, subst, arith}
+use Rattle.std.proofs.Common.{◌≡◌, ℕ, suc, ◌+◌, ◌-◌, ◌<◌, ◌≤◌, ◌==◌, Bool, true, false, if◌then◌else◌, Option, None, Some, refl, sym, ◌∙◌, ap, subst, arith}
 use mathlib.Core.Path.{ap₂}
 use mathlib.Core.Logic.{◌⊎◌, inl, inr}
-use Rattle.rb_frac.specs.Frac.{Frac, Same, fracs, mul}
+use Rattle.rb_frac.specs.Frac.{Frac, fracs, mul}
 use Rattle.rb_frac.specs.Spatial.{Motion, Force}
 use Rattle.rb_frac.proofs.Ring.{mul_nul}
 use Rattle.rb_frac.proofs.Reduce.{same_sym}
-use Rattle.rb_frac.proofs.Rational.{ℚ, ◌+ℚ◌, ◌*ℚ◌, 0ℚ, 1ℚ, qo, rats, cls, sound, cls-zero, cls-one, mul_comm_ℚ, mul_one}
+use Rattle.rb_frac.proofs.Rational.{ℚ, ◌*ℚ◌, 0ℚ, 1ℚ, qo, rats, cls, sound, cls-zero, cls-one, mul_comm_ℚ, mul_one}
 use Rattle.rb_frac.proofs.Hom.{cls_of_mul}
 use Rattle.rb_frac.proofs.Quote.{with3, finish, quote}
 use Rattle.rb_frac.proofs.Sums.{sum, sum_ext, sum-mul, sum_swap}
 use Rattle.rb_num.specs.Arith.{fractions}
 use Rattle.rb_spatial.specs.Motions.{power as rule_power}
-use Rattle.rb_flat.specs.Shape.{Shape, HasBody, HasColumn, ParentsComeFirst, ColumnsFit}
+use Rattle.rb_flat.specs.Shape.{Shape, HasColumn, ParentsComeFirst, ColumnsFit}
 use Rattle.rb_flat.specs.Mechanism.{Mechanism}
 use Rattle.rb_flat.specs.Dynamics.{followed}
 use Rattle.rb_flat.proofs.Powers.{power, sum_one}

@@ -1,11 +1,11 @@
 -- The vector of a row is its force of size 1, and its value the acceleration along the row.
-use Rattle.std.proofs.Common.{◌≡◌, Bool, true, false, [], ◌∷◌, refl, ◌∙◌}
-use Rattle.rb_frac.specs.Ops.{V3, signs, vadd, vneg, vscale, vdot, vcross}
+use Rattle.std.proofs.Common.{Bool, true, false, [], refl}
+use Rattle.rb_frac.specs.Ops.{V3, signs, vadd, vscale, vdot, vcross}
 use Rattle.rb_frac.specs.Pairs.{dot}
 use Rattle.rb_frac.specs.Frac.{Frac, Same, fracs}
 use Rattle.rb_frac.specs.Tables.{nothing}
-use Rattle.rb_frac.specs.Spatial.{Spatial, Motion, Force, Spatials}
-use Rattle.rb_frac.proofs.Ring.{Expr, expr, var}
+use Rattle.rb_frac.specs.Spatial.{Motion, Spatials}
+use Rattle.rb_frac.proofs.Ring.{expr}
 use Rattle.rb_frac.proofs.Hom.{frac_ring}
 use Rattle.rb_frac.proofs.Variables.{vector, spatial, of_vector, of_spatial, at, identity}
 use Rattle.rb_num.specs.Arith.{fractions}

@@ -1,15 +1,15 @@
 -- The Jacobian gives the speeds of the rows, and there is one.
-use Rattle.std.proofs.Common.{◌≡◌, ℕ, zero, suc, ◌+◌, ◌<◌, ◌≤◌, Bool, true, false, [], refl, sym, ◌∙◌, ap, arith}
+use Rattle.std.proofs.Common.{◌≡◌, ℕ, suc, ◌≤◌, Bool, true, false, [], refl, sym, ◌∙◌, ap, arith}
 use mathlib.Core.Path.{ap₂}
-use Rattle.rb_frac.specs.Ops.{V3, signs, minus, vadd, vdot, vcross, sum as sum_of}
+use Rattle.rb_frac.specs.Ops.{V3, minus, vadd, vdot, vcross, sum as sum_of}
 use Rattle.rb_frac.specs.Pairs.{dot}
-use Rattle.rb_frac.specs.Frac.{Frac, Same, fracs, add, neg, mul}
+use Rattle.rb_frac.specs.Frac.{Frac, Same, fracs, neg, mul}
 use Rattle.rb_frac.specs.Tables.{Table, row}
-use Rattle.rb_frac.specs.Spatial.{Spatial, Motion, Force}
+use Rattle.rb_frac.specs.Spatial.{Motion, Force}
 use Rattle.rb_frac.specs.Mechanics.{power_of}
-use Rattle.rb_frac.proofs.Ring.{expr, var}
+use Rattle.rb_frac.proofs.Ring.{expr}
 use Rattle.rb_frac.proofs.Reduce.{same_refl}
-use Rattle.rb_frac.proofs.Rational.{ℚ, ◌+ℚ◌, ◌*ℚ◌, neg_ℚ, 0ℚ, qo, rats, cls, sound, exact, cls-rep, cls-zero, mul_comm_ℚ}
+use Rattle.rb_frac.proofs.Rational.{ℚ, ◌+ℚ◌, ◌*ℚ◌, neg_ℚ, qo, rats, cls, sound, exact, cls-rep, cls-zero, mul_comm_ℚ}
 use Rattle.rb_frac.proofs.Hom.{frac_ring, cls_of_add, cls_of_neg, cls_of_mul}
 use Rattle.rb_frac.proofs.Quote.{with3, finish, quote}
 use Rattle.rb_frac.proofs.Sums.{sum, sum_ext, sum-add, sum-neg}
@@ -18,11 +18,11 @@ use Rattle.rb_frac.proofs.Variables.{vector, spatial, of_vector, of_spatial, at}
 use Rattle.rb_num.specs.Arith.{fractions}
 use Rattle.rb_num.proofs.Bridges.{expressions}
 use Rattle.rb_spatial.specs.Motions.{cross3, power as rule_power}
-use Rattle.rb_flat.specs.Shape.{Shape, HasBody, HasColumn, ParentsComeFirst, ColumnsFit}
+use Rattle.rb_flat.specs.Shape.{Shape, HasColumn, ParentsComeFirst, ColumnsFit}
 use Rattle.rb_flat.specs.Mechanism.{Mechanism}
 use Rattle.rb_flat.specs.Contact.{Constraints, HasRow, RowsFit, point_speed, row_speed}
 use Rattle.rb_flat.proofs.Powers.{power}
-use Rattle.rb_composite.specs.Composite.{ancestor, IsOnPath, HasJointColumn, over_joints, carried, share}
+use Rattle.rb_composite.specs.Composite.{ancestor, over_joints, carried, share}
 use Rattle.rb_composite.proofs.Forms.{power-by_rule}
 use Rattle.rb_composite.proofs.Joints.{count, total, cls-over_joints, total_ext}
 use Rattle.rb_composite.proofs.Seen.{seen, seen-at, seen-apart}
@@ -131,14 +131,16 @@ module _ (shape : Shape) (m : Mechanism Frac) (parents : ParentsComeFirst shape)
 pub has_jacobian : HasJacobian
 has_jacobian shape m k turn parents fits =
     let first = λ (r : ℕ). entries_of shape m parents (k.row r).first (first_vector k turn r) in
-    let second = λ (r : ℕ). entries_of shape m parents (k.row r).second (second_vector k turn r) in
-    (λ r c. over_joints shape (λ i l. mul (share shape m c i l) (minus fracs (first r i l) (second r i l))), record {
-      first = first;
-      second = second;
-      firsts = λ r hr. are_entries shape m parents (k.row r).first (first_vector k turn r) (fits r hr).first;
-      seconds = λ r hr. are_entries shape m parents (k.row r).second (second_vector k turn r) (fits r hr).second;
-      each = λ r c hr hc. same_refl (over_joints shape (λ i l. mul (share shape m c i l) (minus fracs (first r i l) (second r i l))));
-    })
+    let second = λ (r : ℕ). entries_of shape m parents (k.row r).second (second_vector k turn r) in (
+      λ r c. over_joints shape (λ i l. mul (share shape m c i l) (minus fracs (first r i l) (second r i l))),
+      record {
+        first = first;
+        second = second;
+        firsts = λ r hr. are_entries shape m parents (k.row r).first (first_vector k turn r) (fits r hr).first;
+        seconds = λ r hr. are_entries shape m parents (k.row r).second (second_vector k turn r) (fits r hr).second;
+        each = λ r c hr hc. same_refl (over_joints shape (λ i l. mul (share shape m c i l) (minus fracs (first r i l) (second r i l))));
+      },
+    )
 
 pub jacobian_is_one : JacobianIsOne
 jacobian_is_one shape m k turn J J' parents fit fits is is' r c hr hc =

@@ -1,20 +1,20 @@
 -- The forces of the rows take from the torques what the transpose of the Jacobian makes of them.
-use Rattle.std.proofs.Common.{◌≡◌, ℕ, zero, suc, ◌-◌, ◌<◌, ◌≤◌, ◌==◌, Bool, true, false, if◌then◌else◌, [], refl, sym, ◌∙◌, ap, arith}
+use Rattle.std.proofs.Common.{◌≡◌, ℕ, suc, ◌-◌, ◌<◌, ◌≤◌, ◌==◌, Bool, true, false, if◌then◌else◌, [], refl, sym, ◌∙◌, ap, arith}
 use mathlib.Core.Path.{ap₂}
 use Rattle.rb_frac.specs.Ops.{vneg, vdot, sum as sum_of}
 use Rattle.rb_frac.specs.Frac.{Frac, Same, fracs, neg, sub, mul}
 use Rattle.rb_frac.specs.Tables.{Table}
-use Rattle.rb_frac.specs.Spatial.{Spatial, Motion, Force, Spatials}
+use Rattle.rb_frac.specs.Spatial.{Spatial, Force}
 use Rattle.rb_frac.specs.Mechanics.{plus, opposite, power_of}
-use Rattle.rb_frac.proofs.Ring.{expr, var, mul_nul, neg_nul}
-use Rattle.rb_frac.proofs.Rational.{ℚ, ◌+ℚ◌, ◌*ℚ◌, neg_ℚ, 0ℚ, 1ℚ, qo, rats, cls, sound, exact, cls-zero, cls-one, add_nul, mul_comm_ℚ, mul_one}
+use Rattle.rb_frac.proofs.Ring.{expr, mul_nul, neg_nul}
+use Rattle.rb_frac.proofs.Rational.{ℚ, ◌+ℚ◌, ◌*ℚ◌, neg_ℚ, 0ℚ, qo, rats, cls, sound, exact, cls-zero, cls-one, add_nul, mul_comm_ℚ, mul_one}
 use Rattle.rb_frac.proofs.Hom.{frac_ring, cls_of_neg, cls_of_mul, cls_of_sub}
 use Rattle.rb_frac.proofs.Sums.{sum, sum_ext, sum-add, sum-neg}
 use Rattle.rb_frac.proofs.Transfer.{cls-sum}
 use Rattle.rb_frac.proofs.Variables.{spatial, of_spatial, at}
 use Rattle.rb_flat.specs.Shape.{Shape, HasBody, HasColumn, MimicsFit, ParentsComeFirst, ColumnsFit}
 use Rattle.rb_flat.specs.Mechanism.{Mechanism}
-use Rattle.rb_flat.specs.Dynamics.{Unknowns, none, Moves, InverseDynamics, no_force, at_unit}
+use Rattle.rb_flat.specs.Dynamics.{Unknowns, Moves, InverseDynamics, no_force, at_unit}
 use Rattle.rb_flat.specs.Contact.{Constraints, HasRow, RowsFit, rows_on}
 use Rattle.rb_flat.proofs.Equality.{same_fractions, spatials_sym, spatials_trans, needed_same}
 use Rattle.rb_flat.proofs.Powers.{power, power-same, power-plus, power-none, sum_none, sum_one}

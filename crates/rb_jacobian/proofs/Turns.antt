@@ -1,15 +1,15 @@
 -- Turns of the bodies to the world, and what the forces and the values of rows make of turns that are the same.
-use Rattle.std.proofs.Common.{◌≡◌, ℕ, zero, suc, ◌<◌, ◌≤◌, ◌==◌, Bool, true, false, subst, arith}
+use Rattle.std.proofs.Common.{◌≡◌, ℕ, suc, ◌≤◌, ◌==◌, Bool, true, false, subst, arith}
 use Rattle.rb_frac.specs.Ops.{V3, signs, vscale, vdot, vcross}
 use Rattle.rb_frac.specs.Frac.{Frac, Same, fracs}
 use Rattle.rb_frac.specs.Tables.{Table, Vectors, Tables, identity, transpose, row, vector, table_product}
 use Rattle.rb_frac.specs.Spatial.{Spatial, Motion, Force, Spatials}
 use Rattle.rb_frac.specs.Mechanics.{opposite}
 use Rattle.rb_spatial.proofs.Keep.{choice}
-use Rattle.rb_flat.specs.Shape.{Shape, HasBody, ParentsComeFirst}
+use Rattle.rb_flat.specs.Shape.{Shape}
 use Rattle.rb_flat.specs.Mechanism.{Mechanism}
 use Rattle.rb_flat.specs.Dynamics.{Unknowns, none, Moves}
-use Rattle.rb_flat.specs.Contact.{Constraints, HasRow, RowsFit, row_acceleration, row_force, row_on, rows_on, AreTurns}
+use Rattle.rb_flat.specs.Contact.{Constraints, HasRow, RowsFit, row_acceleration, row_force, row_on, rows_on}
 use Rattle.rb_flat.proofs.Equality.{same_fractions, vectors_refl, vectors_sym, vectors_trans, vneg_same, spatials_refl, spatials_trans, plus_same, spatial_sum_same}
 use Rattle.rb_flat.proofs.OneSolution.{down, down_top, down_step}
 use Rattle.rb_jacobian.specs.Jacobian.{row_accelerations}
@@ -53,11 +53,13 @@ product_first t h =
 pub has_turns : HasTurns
 has_turns shape m parents =
     let step = λ (i : ℕ) (t : Table Frac). table_product fracs t (transpose (m.place i).e) in
-    let top = identity (signs fracs) in
-    (down shape.parent top step, record {
-      world = equal (down_top shape.parent top step);
-      each = λ i there. equal (down_step shape.parent top step shape.bodies (λ j g h. parents j (record { from = g; to = h })) i there.from there.to);
-    })
+    let top = identity (signs fracs) in (
+      down shape.parent top step,
+      record {
+        world = equal (down_top shape.parent top step);
+        each = λ i there. equal (down_step shape.parent top step shape.bodies (λ j g h. parents j (record { from = g; to = h })) i there.from there.to);
+      },
+    )
 
 pub turns_are_one : TurnsAreOne
 turns_are_one shape m turn turn' parents h h' =
@@ -66,9 +68,9 @@ turns_are_one shape m turn turn' parents h h' =
     (λ i there above. tables_trans (h.each i there) (tables_trans (product_first (transpose (m.place i).e) above) (tables_sym (h'.each i there))))
 
 -- ---- rows
-vscale_same : {k l : Frac} {u v : V3 Frac} → Same k l → Vectors Same u v → Vectors Same (vscale fracs k u) (vscale fracs l v)
+vscale_same : (k l : Frac) {u v : V3 Frac} → Same k l → Vectors Same u v → Vectors Same (vscale fracs k u) (vscale fracs l v)
 unfolding vscale
-vscale_same h e =
+vscale_same k l h e =
     let E = same_fractions in
     record { x = E.mul _ _ _ _ h e.x; y = E.mul _ _ _ _ h e.y; z = E.mul _ _ _ _ h e.z }
 
@@ -82,10 +84,10 @@ vcross_second q h =
       z = E.add _ _ _ _ (E.mul _ _ _ _ (E.refl q.x) h.y) (E.neg _ _ (E.mul _ _ _ _ (E.refl q.y) h.x));
     }
 
-force_same : (turns : Bool) {d e : V3 Frac} (q : V3 Frac) {x y : Frac} → Vectors Same d e → Same x y → Spatials Same (row_force fracs turns d q x) (row_force fracs turns e q y)
+force_same : (turns : Bool) {d e : V3 Frac} (q : V3 Frac) (x y : Frac) → Vectors Same d e → Same x y → Spatials Same (row_force fracs turns d q x) (row_force fracs turns e q y)
 unfolding row_force
-force_same true q h l = record { lin = vectors_refl same_fractions _; ang = vscale_same l h }
-force_same false q h l = record { lin = vscale_same l h; ang = vcross_second q (vscale_same l h) }
+force_same true q x y h l = record { lin = vectors_refl same_fractions _; ang = vscale_same x y l h }
+force_same false q x y h l = record { lin = vscale_same x y l h; ang = vcross_second q (vscale_same x y l h) }
 
 opposite_same : {f g : Spatial Frac} → Spatials Same f g → Spatials Same (opposite fracs f) (opposite fracs g)
 unfolding opposite
@@ -107,8 +109,8 @@ module _ (shape : Shape) (k : Constraints Frac) (fits : RowsFit shape k) (turn t
       let w = k.row r in
       let n = k.numbers r in
       plus_same same_fractions
-      (choice (Spatials Same) (w.first == i) (force_same w.turns n.first_point (first_row r hr) l) (spatials_refl same_fractions (none fracs)))
-      (choice (Spatials Same) (w.second == i) (opposite_same (force_same w.turns n.second_point (second_row r hr) l)) (spatials_refl same_fractions (none fracs)))
+      (choice (Spatials Same) (w.first == i) (force_same w.turns n.first_point x y (first_row r hr) l) (spatials_refl same_fractions (none fracs)))
+      (choice (Spatials Same) (w.second == i) (opposite_same (force_same w.turns n.second_point x y (second_row r hr) l)) (spatials_refl same_fractions (none fracs)))
 
   pub rows_on_same : (x y : ℕ → Frac) → ((r : ℕ) → HasRow k r → Same (x r) (y r)) → (i : ℕ) → Spatials Same (rows_on fracs k turn x i) (rows_on fracs k turn' y i)
   unfolding rows_on

@@ -1,7 +1,7 @@
 -- The Jacobian of rows of constraints over exact fractions, for a tree in which joints may follow others. Featherstone, Rigid Body Dynamics
 -- Algorithms, chapter 8.
 use Rattle.std.specs.Prelude.{ℕ}
-use Rattle.rb_frac.specs.Ops.{V3, minus}
+use Rattle.rb_frac.specs.Ops.{minus}
 use Rattle.rb_frac.specs.Frac.{Frac, Same, fracs, mul}
 use Rattle.rb_frac.specs.Tables.{Table, row}
 use Rattle.rb_frac.specs.Spatial.{Motion, Force, Motions}

@@ -1,12 +1,12 @@
 -- The Jacobian of rows of constraints gives their speeds, their accelerations and what their forces do to the torques, and borders the mass table.
 -- Featherstone, Rigid Body Dynamics Algorithms, chapter 8.
-use Rattle.std.specs.Prelude.{◌≡◌, ℕ, suc, ◌≤◌, Bool}
+use Rattle.std.specs.Prelude.{ℕ, suc, ◌≤◌, Bool}
 use Rattle.rb_frac.specs.Ops.{V3, sum}
 use Rattle.rb_frac.specs.Frac.{Frac, Same, fracs, add, sub, mul}
 use Rattle.rb_frac.specs.Tables.{Table, Tables}
 use Rattle.rb_frac.specs.Spatial.{Motion, Force, Forces}
 use Rattle.rb_num.specs.Arith.{fractions}
-use Rattle.rb_flat.specs.Shape.{Shape, HasBody, HasColumn, MimicsFit, ParentsComeFirst, ColumnsFit}
+use Rattle.rb_flat.specs.Shape.{Shape, HasColumn, MimicsFit, ParentsComeFirst, ColumnsFit}
 use Rattle.rb_flat.specs.Mechanism.{Mechanism}
 use Rattle.rb_flat.specs.Dynamics.{Unknowns, Moves, InverseDynamics, no_force, unaccelerated, HasOneSolution, IsMassTable}
 use Rattle.rb_flat.specs.Contact.{Constraints, HasRow, RowsFit, row_acceleration, row_force, rows_on, AreTurns, ContactUnknowns, ContactDynamics, SameContact}
