@@ -16,6 +16,3 @@ pub use raw::{JointRaw, LinkRaw};
 pub use rb_joint::AnyJoint;
 pub use rb_spatial::BodyInertia;
 pub use rb_urdf::UrdfKind;
-
-#[cfg(test)]
-mod tests;

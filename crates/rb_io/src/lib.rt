@@ -23,6 +23,3 @@ pub use inputs::{MemInputs, NoFaultsInputs};
 pub use lines::{Cut, MOST_LINE, next_line};
 pub use memory::{MemSink, NoFaultsSink};
 pub use outside::{Failed, Inputs, Sink};
-
-#[cfg(test)]
-mod tests;

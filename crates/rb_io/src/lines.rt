@@ -73,29 +73,3 @@ pub fn next_line(text: &[u8]) -> Option<Cut<'_>>
     }
     None
 }
-
-#[cfg(test)]
-mod tests {
-    use super::*;
-
-    #[test]
-    fn cuts_lines(rt: HostRuntime) {
-        let lines = [
-            (b"a".as_slice(), 2),
-            (b"b\r".as_slice(), 3),
-            (b"c,d".as_slice(), 3),
-            (b"\r".as_slice(), 1),
-        ];
-        let mut rest = b"a\r\n\n\r\nb\r\r\nc,d\n\n\r".as_slice();
-        for (content, size) in lines {
-            let Some(cut) = next_line(rest) else {
-                assert!(rt; false, "no line");
-                return;
-            };
-            assert_eq!(rt; cut.content, content);
-            assert_eq!(rt; cut.size, size);
-            rest = cut.rest;
-        }
-        assert!(rt; next_line(rest).is_none());
-    }
-}

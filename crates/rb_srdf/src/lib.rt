@@ -25,8 +25,3 @@ pub use srdf::{
     Group, GroupItem, GroupState, Groups, Items, JointNumbers, Numbers, Srdf, States, Values,
     Virtual, Virtuals,
 };
-
-#[cfg(test)]
-mod loops_tests;
-#[cfg(test)]
-mod tests;

@@ -22,6 +22,3 @@ pub use root::RootKind;
 pub use tag::{Attr, AttrList, MAX_DEPTH, MAX_TAGS, Tag, Tags};
 pub use text::Text;
 pub use words::next_word;
-
-#[cfg(test)]
-mod tests;

@@ -148,29 +148,3 @@ impl Out {
         self.put_end(iv.hi());
     }
 }
-
-#[cfg(test)]
-mod tests {
-    use super::*;
-    use std::test::Fail;
-
-    #[test]
-    fn intervals_are_put(rt: HostRuntime) -> Result<(), Fail> {
-        let mut out = Out::with_room(rt.alloc(), 80)?;
-        assert_eq!(rt; out.spare(), 80);
-        out.put_iv(Iv::new(22_620_000_000_000, 22_620_000_000_000));
-        assert_eq!(rt; out.bytes(), b"22.620000000000..22.620000000000".as_slice());
-        out.clear();
-        out.put_iv(Iv::new(-500_000_000_000, 1));
-        assert_eq!(rt; out.bytes(), b"-0.500000000000..0.000000000001".as_slice());
-        out.clear();
-        let limit = 1_329_227_995_784_915_872_903_807_060_280_344_576;
-        out.put_iv(Iv::new(-limit, limit));
-        assert_eq!(rt;
-            out.bytes(),
-            b"-1329227995784915872903807.060280344576..1329227995784915872903807.060280344576".as_slice()
-        );
-        assert_eq!(rt; out.spare(), 1);
-        Ok(())
-    }
-}

@@ -12,6 +12,3 @@ pub use bracket::{TextFault, read_bracket};
 pub use buffer::Out;
 pub use size::LARGEST;
 pub use three::read_three;
-
-#[cfg(test)]
-mod tests;

@@ -1,4 +1,4 @@
-//! Tests of the calls of rb_tree, from outside.
+//! Tests of the calls of `rb_tree` and `rb_work`, from outside.
 #![tactic(auto)]
 
 #[cfg(test)]
@@ -15,3 +15,5 @@ mod places;
 mod robots;
 #[cfg(test)]
 mod states;
+#[cfg(test)]
+mod work;

@@ -17,6 +17,3 @@ pub use rb_num::Iv;
 pub use rb_tags::{Tags, Text};
 pub use read::read_urdf;
 pub use robot::{Joints, Links, UrdfJoint, UrdfKind, UrdfLink, UrdfMimic, UrdfRobot};
-
-#[cfg(test)]
-mod tests;

@@ -10,6 +10,3 @@ mod zeros;
 pub use names::{Name, NameKind, RowFault, named, pivot};
 pub use steps::ascends;
 pub use work::{Capitals, Work};
-
-#[cfg(test)]
-mod tests;

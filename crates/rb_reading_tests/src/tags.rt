@@ -1,4 +1,8 @@
-use super::*;
+//! The tags of a file, and its first fault.
+use rb_tags::{
+    ElementRef, Names, TagFault, TagKind, Text, attribute_in, child_in, is_child, next_word,
+    read_tags,
+};
 use std::alloc::{AllocError, Global};
 use std::test::*;
 
@@ -389,21 +393,4 @@ fn texts_are_compared(rt: HostRuntime) -> Result<(), Fail> {
         assert!(rt; lift != Text::copy(rt.alloc(), other)?);
     }
     Ok(())
-}
-
-fn is_shared<T: Send + Sync>() {}
-
-// Threads may send and share each public type.
-#[test]
-fn types_are_shared(_rt: HostRuntime) {
-    is_shared::<Text>();
-    is_shared::<Attr>();
-    is_shared::<AttrList>();
-    is_shared::<Tag>();
-    is_shared::<Tags>();
-    is_shared::<ElementRef<'static>>();
-    is_shared::<Names<'static>>();
-    is_shared::<TagKind>();
-    is_shared::<TagFault>();
-    is_shared::<RootKind>();
 }

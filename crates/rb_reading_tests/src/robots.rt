@@ -1,6 +1,7 @@
-use super::*;
+//! The links and joints of a robot file, and its first fault.
 use rb_num::{Iv, S};
 use rb_tags::read_tags;
+use rb_urdf::{UrdfFault, UrdfFaultKind, UrdfKind, UrdfLink, UrdfMimic, UrdfRobot, read_urdf};
 use std::alloc::Global;
 use std::test::*;
 
@@ -442,20 +443,4 @@ fn faults_are_told(rt: HostRuntime) -> Result<(), Fail> {
     let text = format!(in rt.alloc(); "{fault}")?;
     assert_eq!(rt; text.as_str(), "NoRobot at 0");
     Ok(())
-}
-
-fn is_shared<T: Send + Sync>() {}
-
-// Threads may send and share each public type.
-#[test]
-fn types_are_shared(_rt: HostRuntime) {
-    is_shared::<UrdfRobot>();
-    is_shared::<Links>();
-    is_shared::<UrdfLink>();
-    is_shared::<Joints>();
-    is_shared::<UrdfJoint>();
-    is_shared::<UrdfKind>();
-    is_shared::<UrdfMimic>();
-    is_shared::<UrdfFault>();
-    is_shared::<UrdfFaultKind>();
 }

@@ -1,9 +1,10 @@
+//! The values of all names that a work keeps, the names, and what is refused under them.
 ghost use Rattle.std.specs.Prelude.{◌≡◌, IfOk};
 ghost use Rattle.rb_work.specs.View.{extent_of};
 
-use super::*;
 use rb_num::{Iv, NumFault};
 use rb_spatial::{Force, Mat3, Motion, Vec3};
+use rb_work::{Capitals, Name, NameKind, RowFault, Work, ascends, named, pivot};
 use std::alloc::{AllocError, Global};
 use std::test::*;
 

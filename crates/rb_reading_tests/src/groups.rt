@@ -1,6 +1,7 @@
-use super::*;
-use rb_num::S;
-use rb_tags::read_tags;
+//! The groups, states and virtual joints of a file of semantics, and its first fault.
+use rb_num::{Iv, S};
+use rb_srdf::{GroupItem, GroupState, Srdf, SrdfFault, SrdfFaultKind, read_srdf};
+use rb_tags::{RootKind, Text, read_tags};
 use std::alloc::{AllocError, Global};
 use std::test::*;
 
@@ -375,25 +376,4 @@ fn faults_are_told(rt: HostRuntime) -> Result<(), Fail> {
     let text = format!(in rt.alloc(); "{fault}")?;
     assert_eq!(rt; text.as_str(), "GroupLoop at 16");
     Ok(())
-}
-
-fn is_shared<T: Send + Sync>() {}
-
-// Threads may send and share each public type.
-#[test]
-fn types_are_shared(_rt: HostRuntime) {
-    is_shared::<Srdf>();
-    is_shared::<Groups>();
-    is_shared::<Group>();
-    is_shared::<Items>();
-    is_shared::<GroupItem>();
-    is_shared::<States>();
-    is_shared::<GroupState>();
-    is_shared::<Values>();
-    is_shared::<JointNumbers>();
-    is_shared::<Numbers>();
-    is_shared::<Virtuals>();
-    is_shared::<Virtual>();
-    is_shared::<SrdfFault>();
-    is_shared::<SrdfFaultKind>();
 }

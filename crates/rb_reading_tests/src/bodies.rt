@@ -1,4 +1,5 @@
-use crate::{BodyFault, JointRaw, LinkRaw, inertia_of, joint_of};
+//! The constants of a body from the numbers of its link and its joint.
+use rb_body::{BodyFault, LinkRaw, inertia_of, joint_of};
 use rb_joint::{AnyJoint, JointModel};
 use rb_num::{Iv, S};
 use rb_spatial::Vec3;
@@ -140,13 +141,4 @@ fn refused_joints(rt: HostRuntime) {
     assert!(rt; matches!(long, Err(BodyFault::Size)));
     let turned = joint_of(UrdfKind::Revolute, nothing, three([0, 9, 0]), nothing);
     assert!(rt; matches!(turned, Err(BodyFault::AngleRange)));
-}
-
-fn is_shared<T: Send + Sync>() {}
-
-#[test]
-fn types_are_shared(_rt: HostRuntime) {
-    is_shared::<BodyFault>();
-    is_shared::<JointRaw>();
-    is_shared::<LinkRaw>();
 }

@@ -1,6 +1,7 @@
-use crate::{
-    Bytes, Failed, FileFault, FileInputs, Inputs, MemInputs, MemSink, NoFaultsInputs, NoFaultsSink,
-    Sink, StdSink, put_all, read_all,
+//! Inputs and sinks in memory, and the lines of a text.
+use rb_io::{
+    Failed, FileFault, Inputs, MemInputs, MemSink, NoFaultsInputs, NoFaultsSink, Sink, next_line,
+    put_all, read_all,
 };
 use std::test::Fail;
 
@@ -67,18 +68,23 @@ fn a_full_sink_without_faults_keeps_nothing_more(rt: HostRuntime) -> Result<(), 
     Ok(())
 }
 
-fn is_shared<T: Send + Sync>() {}
-
 #[test]
-fn threads_may_move_and_share_each_type(_rt: HostRuntime) -> Result<(), Fail> {
-    is_shared::<Bytes>();
-    is_shared::<Failed>();
-    is_shared::<FileFault>();
-    is_shared::<MemInputs>();
-    is_shared::<MemSink>();
-    is_shared::<NoFaultsInputs>();
-    is_shared::<NoFaultsSink>();
-    is_shared::<FileInputs<'static, HostRuntime, <HostRuntime as Input>::Reader>>();
-    is_shared::<StdSink<Vec<u8>>>();
-    Ok(())
+fn cuts_lines(rt: HostRuntime) {
+    let lines = [
+        (b"a".as_slice(), 2),
+        (b"b\r".as_slice(), 3),
+        (b"c,d".as_slice(), 3),
+        (b"\r".as_slice(), 1),
+    ];
+    let mut rest = b"a\r\n\n\r\nb\r\r\nc,d\n\n\r".as_slice();
+    for (content, size) in lines {
+        let Some(cut) = next_line(rest) else {
+            assert!(rt; false, "no line");
+            return;
+        };
+        assert_eq!(rt; cut.content, content);
+        assert_eq!(rt; cut.size, size);
+        rest = cut.rest;
+    }
+    assert!(rt; next_line(rest).is_none());
 }

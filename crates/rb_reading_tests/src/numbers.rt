@@ -1,0 +1,204 @@
+//! The brackets of number texts, and how intervals are printed.
+use rb_num::Iv;
+use rb_text::{Out, TextFault, read_bracket, read_three};
+use std::test::*;
+
+const ONE: i128 = 1_000_000_000_000;
+
+const MOST: i128 = ONE * ONE;
+
+fn ends(text: &[u8]) -> Result<(i128, i128), TextFault> {
+    let bracket = read_bracket(text)?;
+    Ok((bracket.lo(), bracket.hi()))
+}
+
+#[test]
+fn exact_numbers_have_equal_ends(rt: HostRuntime) {
+    let table: [(&[u8], i128); 42] = [
+        (b"1.5", 1_500_000_000_000),
+        (b"+1.50", 1_500_000_000_000),
+        (b" 15e-1 ", 1_500_000_000_000),
+        (b"\t1.5 \t", 1_500_000_000_000),
+        (b".5", 500_000_000_000),
+        (b"-.5", -500_000_000_000),
+        (b"+.5", 500_000_000_000),
+        (b"1.", ONE),
+        (b"-1.", -ONE),
+        (b"-0.00003", -30_000_000),
+        (b"-3e-05", -30_000_000),
+        (b"0e999", 0),
+        (b"-0", 0),
+        (b"1E3", 1000 * ONE),
+        (b"1e+3", 1000 * ONE),
+        (b"-1E+03", -1000 * ONE),
+        (b"1e-3", 1_000_000_000),
+        (b"1.e2", 100 * ONE),
+        (b".1e1", ONE),
+        (b"25e0", 25 * ONE),
+        (b"25e-0", 25 * ONE),
+        (b"0e9999999999999999999999999999999999999999", 0),
+        (b"-0.00E+9999999999999999999999999999999999999999", 0),
+        (b"000e-9999999999999999999999999999999999999999", 0),
+        (b"1e0000000000000000000000000000000000000003", 1000 * ONE),
+        (
+            b"1e-0000000000000000000000000000000000000003",
+            1_000_000_000,
+        ),
+        (b"0.0000000000001e1", 1),
+        (b"1000e-15", 1),
+        (b"1234500e-14", 12_345),
+        (b"0.1234567890120000", 123_456_789_012),
+        (b"0.000000000000000000001e21", ONE),
+        (b"1000000000000", MOST),
+        (b"-1000000000000.0", -MOST),
+        (b"0001000000000000", MOST),
+        (b"1e12", MOST),
+        (b"-1e12", -MOST),
+        (b"10000000000000e-1", MOST),
+        (b"0.0000000000001e25", MOST),
+        (b"999999999999.999999999999", MOST - 1),
+        (b"999999999999999999999999e-12", MOST - 1),
+        (b"1.5..1.5", 1_500_000_000_000),
+        (b"-1E0..-.1e1", -ONE),
+    ];
+    for (text, end) in table {
+        assert_eq!(rt; ends(text), Ok((end, end)), "at {text:?}");
+    }
+}
+
+#[test]
+fn other_numbers_have_the_least_interval(rt: HostRuntime) {
+    let table: [(&[u8], i128, i128); 25] = [
+        (b"1e-13", 0, 1),
+        (b"-1e-13", -1, 0),
+        (b"0.0000000000001", 0, 1),
+        (b"-0.0000000000001", -1, 0),
+        (b"1e-9999999999999999999999999999999999999999", 0, 1),
+        (b"-1e-9999999999999999999999999999999999999999", -1, 0),
+        (b"1000e-16", 0, 1),
+        (b"12.5e-13", 1, 2),
+        (b"0.00000000000015e1", 1, 2),
+        (b"123456e-15", 123, 124),
+        (b"-123456e-15", -124, -123),
+        (b"0.1234567890123", 123_456_789_012, 123_456_789_013),
+        (b"999999999999.9999999999999", MOST - 1, MOST),
+        (b"1..2", ONE, 2 * ONE),
+        (b" 1..2\t", ONE, 2 * ONE),
+        (b"\t -1..+1", -ONE, ONE),
+        (b".5...75", 500_000_000_000, 750_000_000_000),
+        (b"1e0..2.E0", ONE, 2 * ONE),
+        (b"-2..-1e-13", -2 * ONE, 0),
+        (b"1e-13..1", 0, ONE),
+        (b"-1e-13..1e-13", -1, 1),
+        (b"1e-13..1e-13", 0, 1),
+        (b"2e-13..1e-13", 0, 1),
+        (b"-1e12..1e12", -MOST, MOST),
+        (b"0e99999..12.5e-13", 0, 2),
+    ];
+    for (text, low, high) in table {
+        assert_eq!(rt; ends(text), Ok((low, high)), "at {text:?}");
+    }
+}
+
+#[test]
+fn other_texts_are_not_numbers(rt: HostRuntime) {
+    let texts: [&[u8]; 44] = [
+        b"", b" ", b"1 2", b"nan", b"inf", b"0x1", b"e5", b".", b"+", b"-.", b"--1", b"+-1",
+        b"1.2.3", b"1,5", b"1_000", b"1e", b"1e+", b"1E-", b"1e1.5", b"1e5e5", b".e1", b"1 e5",
+        b"1e 5", b"1e--1", b"1\n", b"\r1", b"1\r", b"\xff", b"1\x80", b"..", b"1..", b"..1",
+        b" ..1", b"1..2..3", b"1....2", b"1...", b"1 .. 2", b"1.. 2", b"1 ..2", b"1e..2", b"1..2e",
+        b"1e13..x", b"x..1e13", b"2..1\n",
+    ];
+    for text in texts {
+        assert_eq!(rt; ends(text), Err(TextFault::NotNumber), "at {text:?}");
+    }
+}
+
+#[test]
+fn large_numbers_are_refused(rt: HostRuntime) {
+    let texts: [&[u8]; 17] = [
+        b"1000000000000.0000001",
+        b"1000000000000.000000000001",
+        b"1000000000000.0000000000001",
+        b"-1000000000000.0000000000000000001",
+        b"1000000000000000000000001e-12",
+        b"10000000000000000000000001e-13",
+        b"1e13",
+        b"-1e13",
+        b"0.00000000000011e25",
+        b"1e24",
+        b"1e38",
+        b"1e39",
+        b"-.1e9999999999999999999999999999999999999999",
+        b"1e13..1",
+        b"2..-1e13",
+        b"1..1e13",
+        b"1e13..-1e13",
+    ];
+    for text in texts {
+        assert_eq!(rt; ends(text), Err(TextFault::TooLarge), "at {text:?}");
+    }
+}
+
+#[test]
+fn ranges_that_fall_are_refused(rt: HostRuntime) {
+    let texts: [&[u8]; 7] = [
+        b"1...2",
+        b"2..1",
+        b" 1..-1 ",
+        b"1e-12..0",
+        b"0.0000000000015..0.000000000001",
+        b"0.000000000001..0.0000000000005",
+        b"1e12..-1e12",
+    ];
+    for text in texts {
+        assert_eq!(rt; ends(text), Err(TextFault::Backwards), "at {text:?}");
+    }
+}
+
+#[test]
+fn three_numbers_are_read(rt: HostRuntime) {
+    let three = read_three(b" 1\t-.5\r\n1e-13 ");
+    let (one, half, least) = (
+        Iv::new(ONE, ONE),
+        Iv::new(-ONE / 2, -ONE / 2),
+        Iv::new(0, 1),
+    );
+    assert!(rt; three == Ok([one, half, least]));
+}
+
+#[test]
+fn other_lists_are_refused(rt: HostRuntime) {
+    let texts: [(&[u8], TextFault); 7] = [
+        (b"", TextFault::NotNumber),
+        (b"1 2", TextFault::NotNumber),
+        (b"1 2 3 4", TextFault::NotNumber),
+        (b"1,2,3", TextFault::NotNumber),
+        (b"1 x 1e13", TextFault::NotNumber),
+        (b"1 1e13 x", TextFault::TooLarge),
+        (b"2..1 1 1", TextFault::Backwards),
+    ];
+    for (text, fault) in texts {
+        assert!(rt; read_three(text) == Err(fault), "at {text:?}");
+    }
+}
+
+#[test]
+fn intervals_are_put(rt: HostRuntime) -> Result<(), Fail> {
+    let mut out = Out::with_room(rt.alloc(), 80)?;
+    assert_eq!(rt; out.spare(), 80);
+    out.put_iv(Iv::new(22_620_000_000_000, 22_620_000_000_000));
+    assert_eq!(rt; out.bytes(), b"22.620000000000..22.620000000000".as_slice());
+    out.clear();
+    out.put_iv(Iv::new(-500_000_000_000, 1));
+    assert_eq!(rt; out.bytes(), b"-0.500000000000..0.000000000001".as_slice());
+    out.clear();
+    let limit = 1_329_227_995_784_915_872_903_807_060_280_344_576;
+    out.put_iv(Iv::new(-limit, limit));
+    assert_eq!(rt;
+        out.bytes(),
+        b"-1329227995784915872903807.060280344576..1329227995784915872903807.060280344576".as_slice()
+    );
+    assert_eq!(rt; out.spare(), 1);
+    Ok(())
+}
