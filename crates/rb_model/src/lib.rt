@@ -8,6 +8,3 @@ mod model;
 
 pub use laws::model_law;
 pub use model::model_text;
-
-#[cfg(test)]
-mod tests;

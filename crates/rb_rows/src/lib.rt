@@ -18,6 +18,3 @@ pub use header::{Header, Target};
 pub use laws::{header_law, line_law, row_law};
 pub use row::read_row;
 pub use task::Task;
-
-#[cfg(test)]
-mod tests;

@@ -14,6 +14,3 @@ pub use line::{line_room, put_line, put_number};
 pub use rb_rows::Task;
 pub use slot::{Answer, Slot, SlotInput};
 pub use values::Values;
-
-#[cfg(test)]
-mod tests;

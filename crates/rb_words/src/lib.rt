@@ -14,6 +14,3 @@ pub use faults::{WordsFault, WordsStop};
 pub use laws::words_law;
 pub use order::Order;
 pub use words::read_words;
-
-#[cfg(test)]
-mod tests;

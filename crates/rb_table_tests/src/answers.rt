@@ -7,22 +7,19 @@ ghost use Rattle.rb_run.specs.Slots.{IsSlotOf};
 ghost use Rattle.rb_run.specs.declared.slot.Answer.TheVariants.{Idle};
 ghost use Rattle.rb_rows.specs.Head.{IsBuilt};
 
-use super::*;
+use crate::robots::{LIFT, robot_on};
 use rb_num::Iv;
 use rb_rows::{FieldFault, FieldKind};
-use rb_tags::read_tags;
+use rb_run::{Answer, Job, Slot, SlotInput, Task, answer_slot, line_room, put_line};
 use rb_text::Out;
 use rb_tree::{Robot, State};
-use rb_urdf::read_urdf;
 use rb_work::{Name, NameKind, RowFault, Work};
 use std::alloc::{AllocError, Global};
 use std::test::*;
 
 const ONE: i128 = 1_000_000_000_000;
 
-const LIFT: &str =
-    "<robot name='lift'><link name='base'/><link name='car'><inertial><mass value='2'/></inertial></link><joint name='lift' type='prismatic'><parent link='base'/><child link='car'/><axis xyz='0 0 1'/></joint></robot>";
-
+// A car of 10^12 kg.
 const HEAVY: &str =
     "<robot name='lift'><link name='base'/><link name='car'><inertial><mass value='1e12'/></inertial></link><joint name='lift' type='prismatic'><parent link='base'/><child link='car'/><axis xyz='0 0 1'/></joint></robot>";
 
@@ -39,9 +36,7 @@ fn job_of(alloc: Global, text: &str, task: Task, echo: bool) -> Option<Job>
     requires { IsBuilt task }
     ensures { IfSome result IsJob }
 {
-    let tags = read_tags(alloc, text.as_bytes()).ok()?;
-    let urdf = read_urdf(alloc, &tags).ok()?;
-    let robot = Robot::build(alloc, &urdf, None, None).ok()?;
+    let robot = robot_on(alloc, text, None)?;
     if robot.has_mimic() {
         return None;
     }
@@ -152,30 +147,27 @@ fn driven(alloc: Global, job: &Job) -> Result<Out, AllocError>
     line_of(alloc, job, &slot)
 }
 
+// Whether this is the line of row 1 of the stack for a task.
+fn is_driven(alloc: Global, task: Task, line: &[u8]) -> Result<bool, Fail>
+    requires { IsBuilt task }
+{
+    let job = job_of(alloc, STACK, task, false).ok_or("the robot is built")?;
+    let out = driven(alloc, &job)?;
+    Ok(out.bytes() == line)
+}
+
 // The first joint moves both bodies, so the mass table is 2 1, 1 1; 2 * 2 - 1 = 3, and 2 - 1 = 1.
 #[test]
 fn each_task_has_its_values(rt: HostRuntime) -> Result<(), Fail> {
     let alloc = rt.alloc();
-    let torques = job_of(alloc, STACK, Task::Rnea, false).ok_or("the robot is built")?;
-    assert_eq!(rt;
-        driven(alloc, &torques)?.bytes(),
-        b"1,ok,,3.000000000000..3.000000000000,1.000000000000..1.000000000000\n".as_slice()
-    );
-    let masses = job_of(alloc, STACK, Task::Crba, false).ok_or("the robot is built")?;
-    assert_eq!(rt;
-        driven(alloc, &masses)?.bytes(),
-        b"1,ok,,2.000000000000..2.000000000000,1.000000000000..1.000000000000,1.000000000000..1.000000000000\n".as_slice()
-    );
-    let accelerations = job_of(alloc, STACK, Task::Fd, false).ok_or("the robot is built")?;
-    assert_eq!(rt;
-        driven(alloc, &accelerations)?.bytes(),
-        b"1,ok,,2.000000000000..2.000000000000,-1.000000000000..-1.000000000000\n".as_slice()
-    );
-    let articulated = job_of(alloc, STACK, Task::Aba, false).ok_or("the robot is built")?;
-    assert_eq!(rt;
-        driven(alloc, &articulated)?.bytes(),
-        b"1,ok,,2.000000000000..2.000000000000,-1.000000000000..-1.000000000000\n".as_slice()
-    );
+    let torques = b"1,ok,,3.000000000000..3.000000000000,1.000000000000..1.000000000000\n";
+    assert!(rt; is_driven(alloc, Task::Rnea, torques)?);
+    let masses =
+        b"1,ok,,2.000000000000..2.000000000000,1.000000000000..1.000000000000,1.000000000000..1.000000000000\n";
+    assert!(rt; is_driven(alloc, Task::Crba, masses)?);
+    let accelerations = b"1,ok,,2.000000000000..2.000000000000,-1.000000000000..-1.000000000000\n";
+    assert!(rt; is_driven(alloc, Task::Fd, accelerations)?);
+    assert!(rt; is_driven(alloc, Task::Aba, accelerations)?);
     Ok(())
 }
 
@@ -263,18 +255,6 @@ fn causes_are_told(rt: HostRuntime) -> Result<(), Fail> {
         b"1,pivot,D[1]=-0.000000000001..1.000000000000,\n".as_slice()
     );
     Ok(())
-}
-
-fn is_shared<T: Send + Sync>() {}
-
-#[test]
-fn types_are_shared(_rt: HostRuntime) {
-    is_shared::<Job>();
-    is_shared::<Slot>();
-    is_shared::<Values>();
-    is_shared::<Task>();
-    is_shared::<SlotInput>();
-    is_shared::<Answer>();
 }
 
 #[test]

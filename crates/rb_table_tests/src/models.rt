@@ -1,16 +1,12 @@
 //! Models of small robots, written out by hand.
-use super::*;
+use crate::robots::{LIFT, robot_on};
+use rb_model::model_text;
 use rb_srdf::read_srdf;
 use rb_tags::{RootKind, read_tags};
 use rb_tree::{Robot, State};
 use rb_urdf::read_urdf;
 use std::alloc::Global;
 use std::test::*;
-
-// A car that is lifted off a fixed base.
-const LIFT: &str = "<robot name='lift'><link name='base'/>\
-<link name='car'><inertial><mass value='2'/></inertial></link>\
-<joint name='lift' type='prismatic'><parent link='base'/><child link='car'/><axis xyz='0 0 1'/></joint></robot>";
 
 const LIFT_LINES: &str = "robot,lift\n\
 joint,1,0,root_joint,fixed,\
@@ -129,12 +125,6 @@ state,\
 0.000000000000..0.000000000000,0.000000000000..0.000000000000,0.000000000000..0.000000000000,\
 0.000000000000..0.000000000000,0.000000000000..0.000000000000,0.000000000000..0.000000000000,1.000000000000..1.000000000000,\
 0.000000000000..0.000000000000\n";
-
-fn robot_on(alloc: Global, urdf: &str, root: Option<RootKind>) -> Option<Robot> {
-    let tags = read_tags(alloc, urdf.as_bytes()).ok()?;
-    let urdf = read_urdf(alloc, &tags).ok()?;
-    Robot::build(alloc, &urdf, None, root).ok()
-}
 
 fn robot_with_groups(
     alloc: Global,

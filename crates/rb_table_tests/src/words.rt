@@ -1,7 +1,8 @@
-use super::*;
+//! What the words of a command line ask for, and their faults.
 use rb_num::Iv;
 use rb_rows::Task;
 use rb_tags::RootKind;
+use rb_words::{Order, WordsFault, WordsStop, read_words};
 use std::alloc::{AllocError, Global};
 use std::test::*;
 
@@ -178,14 +179,4 @@ fn the_parser_tells_its_text(rt: HostRuntime) -> Result<(), Fail> {
         )
     );
     Ok(())
-}
-
-fn is_shared<T: Send + Sync>() {}
-
-// Threads may send and share each public type.
-#[test]
-fn types_are_shared(_rt: HostRuntime) {
-    is_shared::<Command<'_>>();
-    is_shared::<Order>();
-    is_shared::<WordsStop>();
 }

@@ -1,0 +1,252 @@
+//! Headers of tables with faults counted by hand, and the lines of names.
+use crate::robots::{ARM, BLOCK, FOLLOWER, robot_on};
+use rb_rows::{
+    FieldFault, FieldKind, Header, HeaderFault, HeaderKind, Target, Task, column_line, head_line,
+};
+use rb_tags::{RootKind, Text};
+use rb_tree::Robot;
+use std::alloc::{AllocError, Global};
+use std::test::*;
+
+// The longest line that is read.
+const LONG: usize = 65_536;
+
+fn has_targets(alloc: Global, robot: &Robot, line: &[u8], targets: &[Target]) -> bool {
+    line.len() <= LONG
+        && matches!(Header::read(alloc, robot, line), Ok(header) if header.targets() == targets)
+}
+
+fn has_fault(alloc: Global, robot: &Robot, line: &[u8], kind: HeaderKind, field: u32) -> bool {
+    line.len() <= LONG
+        && matches!(Header::read(alloc, robot, line), Err(fault) if fault == HeaderFault { kind, field })
+}
+
+// The first line of a table of the arm, and what its fields stand for.
+const TARGETS: [(&[u8], &[Target]); 4] = [
+    (
+        b"q.lift,q.turn.cos,q.turn.sin,v.lift,v.turn,a.lift,a.turn,tau.lift,tau.turn",
+        &[
+            Target::Entry(0),
+            Target::Entry(1),
+            Target::Entry(2),
+            Target::Speed(0),
+            Target::Speed(1),
+            Target::Acceleration(0),
+            Target::Acceleration(1),
+            Target::Torque(0),
+            Target::Torque(1),
+        ],
+    ),
+    (
+        b"tau.turn,#when,q.turn.sin,a.lift,#when",
+        &[
+            Target::Torque(1),
+            Target::Remark,
+            Target::Entry(2),
+            Target::Acceleration(0),
+            Target::Remark,
+        ],
+    ),
+    (
+        b"\xEF\xBB\xBF\"v.turn\",v.lift",
+        &[Target::Speed(1), Target::Speed(0)],
+    ),
+    (b"\"v.turn", &[Target::Speed(1)]),
+];
+
+#[test]
+fn columns_come_in_any_order(rt: HostRuntime) -> Result<(), Fail> {
+    let arm = robot_on(rt.alloc(), ARM, None).ok_or("the arm")?;
+    for (line, targets) in TARGETS {
+        assert!(rt; has_targets(rt.alloc(), &arm, line, targets), "at {line:?}");
+    }
+    Ok(())
+}
+
+// The first line of a table of the arm, and the kind and the field of its fault.
+const FAULTS: [(&[u8], HeaderKind, u32); 8] = [
+    (b"", HeaderKind::BadHeader, 0),
+    (b"v.lift\rv.turn", HeaderKind::BadHeader, 0),
+    (b"v.lift,\xFF", HeaderKind::BadHeader, 0),
+    (b"v.lift,q.turn", HeaderKind::UnknownColumn, 2),
+    (b"v.lift, v.turn", HeaderKind::UnknownColumn, 2),
+    (b"v.lift,", HeaderKind::UnknownColumn, 2),
+    (b"v.lift,#,v.lift,x", HeaderKind::ColumnTwice, 3),
+    (b"x,v.lift,x,v.lift", HeaderKind::UnknownColumn, 1),
+];
+
+#[test]
+fn headers_are_refused_at_their_first_bad_field(rt: HostRuntime) -> Result<(), Fail> {
+    let arm = robot_on(rt.alloc(), ARM, None).ok_or("the arm")?;
+    for (line, kind, field) in FAULTS {
+        assert!(rt;
+            has_fault(rt.alloc(), &arm, line, kind, field),
+            "at {line:?}"
+        );
+    }
+    Ok(())
+}
+
+// A robot, its root, the first line of a table of it, and what its fields stand for.
+const NAMED: [(&str, Option<RootKind>, &[u8], &[Target]); 3] = [
+    (
+        FOLLOWER,
+        None,
+        b"tau.lift,q.lift",
+        &[Target::Torque(0), Target::Entry(0)],
+    ),
+    (
+        BLOCK,
+        Some(RootKind::Planar),
+        b"q.root_joint.sin,v.root_joint.wz,q.root_joint.x",
+        &[Target::Entry(3), Target::Speed(2), Target::Entry(0)],
+    ),
+    (
+        BLOCK,
+        Some(RootKind::Floating),
+        b"q.root_joint.qw,a.root_joint.vx,tau.root_joint.wz",
+        &[Target::Entry(6), Target::Acceleration(0), Target::Torque(5)],
+    ),
+];
+
+#[test]
+fn columns_are_named_by_their_joints(rt: HostRuntime) -> Result<(), Fail> {
+    for (text, root, line, targets) in NAMED {
+        let robot = robot_on(rt.alloc(), text, root).ok_or("a robot")?;
+        assert!(rt;
+            has_targets(rt.alloc(), &robot, line, targets),
+            "at {line:?}"
+        );
+    }
+    Ok(())
+}
+
+#[test]
+fn a_joint_that_follows_another_has_no_column(rt: HostRuntime) -> Result<(), Fail> {
+    let follower = robot_on(rt.alloc(), FOLLOWER, None).ok_or("a robot")?;
+    let line = b"tau.lift,q.turn";
+    assert!(rt; has_fault(rt.alloc(), &follower, line, HeaderKind::UnknownColumn, 2));
+    Ok(())
+}
+
+#[test]
+fn faults_are_told(rt: HostRuntime) -> Result<(), Fail> {
+    let header = HeaderFault {
+        kind: HeaderKind::BadHeader,
+        field: 0,
+    };
+    let text = format!(in rt.alloc(); "{header}")?;
+    assert_eq!(rt; text.as_str(), "BadHeader at field 0");
+    let field = FieldFault {
+        kind: FieldKind::NotNumber,
+        field: 3,
+    };
+    let text = format!(in rt.alloc(); "{field}")?;
+    assert_eq!(rt; text.as_str(), "NotNumber[3]");
+    Ok(())
+}
+
+// A line's text, if there is one.
+fn is_line(line: Result<Text, AllocError>, text: &str) -> bool {
+    matches!(line, Ok(line) if line.as_str() == text)
+}
+
+// A sliding joint, whose name has a comma and quotes in it.
+const QUOTED: &str = "<robot name='arm'><link name='base'/><link name='upper'/>\
+<joint name='up, \"or\" down' type='prismatic'><parent link='base'/><child link='upper'/><axis xyz='0 0 1'/>\
+<limit lower='-1' upper='1' effort='1' velocity='1'/></joint></robot>";
+
+// A robot, its root, and the line of its columns.
+const COLUMNS: [(&str, Option<RootKind>, &str); 5] = [
+    (
+        ARM,
+        None,
+        "q.lift,q.turn.cos,q.turn.sin,v.lift,v.turn,a.lift,a.turn,tau.lift,tau.turn\n",
+    ),
+    (FOLLOWER, None, "q.lift,v.lift,a.lift,tau.lift\n"),
+    (
+        BLOCK,
+        Some(RootKind::Planar),
+        "q.root_joint.x,q.root_joint.y,q.root_joint.cos,q.root_joint.sin,\
+v.root_joint.vx,v.root_joint.vy,v.root_joint.wz,a.root_joint.vx,a.root_joint.vy,a.root_joint.wz,\
+tau.root_joint.vx,tau.root_joint.vy,tau.root_joint.wz\n",
+    ),
+    (
+        QUOTED,
+        None,
+        "\"q.up, \"\"or\"\" down\",\"v.up, \"\"or\"\" down\",\"a.up, \"\"or\"\" down\",\"tau.up, \"\"or\"\" down\"\n",
+    ),
+    (BLOCK, None, "\n"),
+];
+
+#[test]
+fn columns_are_named_in_a_line(rt: HostRuntime) -> Result<(), Fail> {
+    for (text, root, line) in COLUMNS {
+        let robot = robot_on(rt.alloc(), text, root).ok_or("a robot")?;
+        assert!(rt; is_line(column_line(rt.alloc(), &robot), line), "at {line}");
+    }
+    Ok(())
+}
+
+// A robot, a task, whether the numbers of a row are told, and the first line.
+const HEADS: [(&str, Task, bool, &str); 8] = [
+    (
+        ARM,
+        Task::Rnea,
+        false,
+        "row,answer,cause,tau.lift,tau.turn\n",
+    ),
+    (
+        ARM,
+        Task::Crba,
+        false,
+        "row,answer,cause,M.1.1,M.1.2,M.2.2\n",
+    ),
+    (ARM, Task::Fd, false, "row,answer,cause,a.lift,a.turn\n"),
+    (ARM, Task::Aba, false, "row,answer,cause,a.lift,a.turn\n"),
+    (
+        ARM,
+        Task::Contact,
+        false,
+        "row,answer,cause,a.lift,a.turn\n",
+    ),
+    (
+        ARM,
+        Task::Impulse,
+        false,
+        "row,answer,cause,v.lift,v.turn\n",
+    ),
+    (
+        FOLLOWER,
+        Task::Crba,
+        true,
+        "row,answer,cause,in.q.lift,in.v.lift,in.a.lift,in.tau.lift,M.1.1\n",
+    ),
+    (BLOCK, Task::Crba, true, "row,answer,cause\n"),
+];
+
+#[test]
+fn the_first_line_names_the_values_of_the_task(rt: HostRuntime) -> Result<(), Fail> {
+    for (text, task, echo, line) in HEADS {
+        let robot = robot_on(rt.alloc(), text, None).ok_or("a robot")?;
+        assert!(rt;
+            is_line(head_line(rt.alloc(), &robot, task, echo), line),
+            "at {line}"
+        );
+    }
+    Ok(())
+}
+
+#[test]
+fn tasks_have_words(rt: HostRuntime) {
+    for (task, word) in [
+        (Task::Rnea, "rnea"),
+        (Task::Crba, "crba"),
+        (Task::Fd, "fd"),
+        (Task::Aba, "aba"),
+        (Task::Contact, "contact"),
+        (Task::Impulse, "impulse"),
+    ] {
+        assert_eq!(rt; task.word(), word);
+    }
+}
