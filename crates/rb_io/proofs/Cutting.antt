@@ -3,7 +3,7 @@ use Rattle.std.proofs.Common.{◌≡◌, ◌<◌, ◌+◌, ◌-◌, ℕ, List, [
 use Rattle.std.proofs.lemmas.List.{length-take-le, nil_from_length}
 use Rattle.std.specs.List.{slice_split}
 use Rattle.std.specs.Str.Lines.{strip_carriage_return}
-use Rattle.rb_io.specs.Cut.{Line, line, is_line_feed, has_bytes, lines_cut, lines_of}
+use Rattle.rb_io.specs.Cut.{Line, line, is_line_feed, has_bytes, lines_cut, all_lines, lines_of}
 use Rattle.rb_io.proofs.Splits.{slice_split-some, slice_split-none, slice_split-some_part, position-within}
 
 abbrev kept : List Line → List Line
@@ -54,3 +54,17 @@ lines_of-last text is some =
 pub lines_of-none : (text : List ℕ) → length text ≡ 0 → lines_of text ≡ []
 unfolding lines_of
 lines_of-none text none = rw (nil_from_length text none)
+
+-- ---- all lines
+-- an LF ends the first line
+pub all_lines-some : (text : List ℕ) (end : ℕ) (content : List ℕ) → position is_line_feed text ≡ Some end → content ≡ strip_carriage_return (take end text) → all_lines text ≡ line content end ∷ all_lines (behind end text)
+all_lines-some text end content is content_is =
+    let within : end < length text = position-within is_line_feed text end is in
+    let size : length (take end text) ≡ end = length-take-le end text (omega arith) in
+    let parts = slice_split-some is_line_feed text end is in
+    let lines = lines_cut-cons (take end text) (slice_split is_line_feed (behind end text)) (slice_split-some_part is_line_feed (behind end text)) in
+    rw content_is (subst (λ (n : ℕ). all_lines text ≡ line (strip_carriage_return (take end text)) n ∷ all_lines (behind end text)) size (ap lines_cut parts ∙ lines))
+
+-- no LF ends the one line
+pub all_lines-none : (text : List ℕ) → position is_line_feed text ≡ None → all_lines text ≡ line text (length text) ∷ []
+all_lines-none text is = ap lines_cut (slice_split-none is_line_feed text is)

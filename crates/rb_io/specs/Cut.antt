@@ -24,6 +24,10 @@ abbrev pub has_bytes : List ℕ → Bool
 has_bytes [] = false
 has_bytes (byte ∷ bytes) = true
 
--- the lines of a text that are not empty
+-- all lines of a text: behind a last LF stands an empty one
+abbrev pub all_lines : List ℕ → List Line
+all_lines text = lines_cut (slice_split is_line_feed text)
+
+-- those that are not empty
 unfoldable pub lines_of : List ℕ → List Line
-lines_of text = filter (λ line. has_bytes line.content) (lines_cut (slice_split is_line_feed text))
+lines_of text = filter (λ line. has_bytes line.content) (all_lines text)

@@ -20,6 +20,6 @@ mod tally;
 pub use calls::{Bytes, FileFault, put_all, read_all};
 pub use host::{FileInputs, StdSink};
 pub use inputs::{MemInputs, NoFaultsInputs};
-pub use lines::{Cut, MOST_LINE, next_line};
+pub use lines::{Cut, MOST_LINE, first_line, next_line};
 pub use memory::{MemSink, NoFaultsSink};
 pub use outside::{Failed, Inputs, Sink};

@@ -1,7 +1,7 @@
 //! Lines of a text.
-ghost use Rattle.std.specs.Prelude.{◌≡◌, ◌≤◌, ◌<◌, [], ◌∷◌, length, position, IfSome, MatchOption};
+ghost use Rattle.std.specs.Prelude.{◌≡◌, ◌⊎◌, ◌≤◌, ◌<◌, [], ◌∷◌, length, position, IfSome, MatchOption};
 ghost use Rattle.std.specs.Str.Lines.{strip_carriage_return};
-ghost use Rattle.rb_io.specs.Cut.{is_line_feed, line, lines_of};
+ghost use Rattle.rb_io.specs.Cut.{is_line_feed, line, all_lines, lines_of};
 
 /// The most bytes of a line, without its LF.
 pub const MOST_LINE: usize = 65_536;
@@ -33,9 +33,12 @@ fn without_return(line: &[u8]) -> &[u8]
     }
 }
 
-// The first line, be it empty, and what is behind it.
-fn first_cut(text: &[u8]) -> Cut<'_>
+/// The first line, be it empty, and what is behind it. Where nothing is behind an LF, an empty line follows, and none follows where no LF
+/// ends the line.
+pub fn first_line(text: &[u8]) -> Cut<'_>
     requires { 0 < length text.now }
+    ensures all { (all_lines text.now ≡ line result.content.now result.size ∷ all_lines result.rest.now)
+        ⊎ ((result.rest.now ≡ []) × (all_lines text.now ≡ line result.content.now result.size ∷ [])) }
     ensures filled { 0 < length result.content.now
         → lines_of text.now ≡ line result.content.now result.size ∷ lines_of result.rest.now }
     ensures empty { result.content.now ≡ [] → lines_of text.now ≡ lines_of result.rest.now }
@@ -65,7 +68,7 @@ pub fn next_line(text: &[u8]) -> Option<Cut<'_>>
 {
     let mut rest = text;
     'lines: while !rest.is_empty() {
-        let cut = first_cut(rest);
+        let cut = first_line(rest);
         if !cut.content.is_empty() {
             return Some(cut);
         }

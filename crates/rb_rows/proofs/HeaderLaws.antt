@@ -23,7 +23,7 @@ use Rattle.rb_rows.specs.Faults.{header_fault}
 use Rattle.rb_rows.specs.Columns.{state_columns, state_targets}
 use Rattle.rb_rows.specs.Header.{is_remark, is_among, target_named, target_after, targets_after, targets_of, header_of}
 use Rattle.rb_rows.specs.Laws.{StandsFor, HeaderNamesColumns, IsBad, IsFirstBad, HeaderFaultIsFirst}
-use Rattle.rb_rows.specs.Record.{fields_in}
+use Rattle.rb_record.specs.Record.{fields_in}
 
 -- ---- one field
 named_stands : (tree : Tree) (name : List ℕ) (t : Target) → target_named tree name ≡ Some t → StandsFor tree name t

@@ -18,7 +18,7 @@ use Rattle.std.proofs.lemmas.Str.{IsUtf8-from_is_utf8, is_utf8-from_IsUtf8}
 use Rattle.std.specs.Prelude.{is_some}
 use Rattle.rb_rows.specs.declared.faults.HeaderKind.TheVariants.{BadHeader}
 use Rattle.rb_rows.specs.Faults.{header_fault}
-use Rattle.rb_rows.specs.Record.{fields_in}
+use Rattle.rb_record.specs.Record.{fields_in}
 use Rattle.rb_rows.specs.Header.{is_among, target_after, targets_after, targets_of, header_of}
 use Rattle.rb_rows.proofs.RowSteps.{record_is}
 

@@ -1,4 +1,3 @@
-pub mod Records
 pub mod PlainLines
 pub mod Targets
 pub mod Differ

@@ -14,7 +14,7 @@ use Rattle.rb_rows.specs.declared.task.Task.{Task}
 use Rattle.rb_rows.specs.Columns.{behind, entries_of, columns_of, state_columns}
 use Rattle.rb_rows.specs.Head.{line_of, head_fields}
 use Rattle.rb_rows.specs.Laws.{ReadsBack, ColumnLineReadsBack, HeadLineReadsBack}
-use Rattle.rb_rows.proofs.Records.{whole_read}
+use Rattle.rb_record.proofs.Records.{whole_read}
 
 -- ---- a record without its LF
 abbrev fields_read : Option Read → List (List ℕ)

@@ -13,8 +13,9 @@ use Rattle.csv.proofs.RoundTrip.{record-same, start-same}
 use Rattle.csv.specs.Machine.{next_record}
 use Rattle.csv.specs.Reading.{default_config, strip_bom}
 use Rattle.csv.specs.declared.parser.State.TheVariants as st
-use Rattle.rb_rows.specs.Record.{fields_in, is_mark, is_comma, is_plain, parts_of}
-use Rattle.rb_rows.proofs.Records.{whole_read}
+use Rattle.rb_record.specs.Record.{fields_in}
+use Rattle.rb_rows.specs.Plain.{is_mark, is_comma, is_plain, parts_of}
+use Rattle.rb_record.proofs.Records.{whole_read}
 
 -- ---- the test of a line
 clear : (b : Bool) → ¬ (b ≡ true) → b ≡ false

@@ -4,7 +4,7 @@ use Rattle.std.proofs.lemmas.Bool.{cases_lt}
 use Rattle.std.proofs.lemmas.List.{drop_more}
 use Rattle.rb_tree.specs.State.{Row}
 use Rattle.rb_rows.specs.declared.header.Target.{Target}
-use Rattle.rb_rows.specs.Record.{is_plain, parts_of}
+use Rattle.rb_rows.specs.Plain.{is_plain, parts_of}
 use Rattle.rb_rows.specs.Row.{row_told, row_of}
 use Rattle.rb_rows.proofs.PlainLines.{plain_line_splits}
 

@@ -17,7 +17,7 @@ use Rattle.rb_rows.specs.declared.header.Target.TheVariants as To
 use Rattle.rb_rows.specs.Faults.{field_fault}
 use Rattle.rb_rows.specs.Columns.{numbered, state_targets, state_columns}
 use Rattle.rb_rows.specs.Header.{is_remark, HasPlace, HasPlaces}
-use Rattle.rb_rows.specs.Record.{fields_in}
+use Rattle.rb_record.specs.Record.{fields_in}
 use Rattle.rb_rows.specs.Row.{with_number, text_fault, told, filled, row_told, row_of, IsAlike}
 use Rattle.rb_rows.specs.Laws.{number_at, IsTold, IsRowOf, RowTellsNumbers}
 use Rattle.rb_rows.proofs.Targets.{entries, columns, part, last_two, last_three, in_parts, length-numbered}

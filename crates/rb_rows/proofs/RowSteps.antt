@@ -8,7 +8,7 @@ use Rattle.rb_rows.specs.declared.faults.FieldFault.{FieldFault}
 use Rattle.rb_rows.specs.declared.header.Target.{Target}
 use Rattle.rb_rows.specs.declared.header.Target.TheVariants as To
 use Rattle.rb_rows.specs.Header.{HasPlace, HasPlaces}
-use Rattle.rb_rows.specs.Record.{fields_in}
+use Rattle.rb_record.specs.Record.{fields_in}
 use Rattle.rb_rows.specs.Row.{told, filled, filled_from, row_told, row_of, IsAlike}
 
 -- ---- what stays

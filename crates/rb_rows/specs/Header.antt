@@ -13,7 +13,7 @@ use Rattle.rb_rows.specs.declared.header.Target.{Target}
 use Rattle.rb_rows.specs.declared.header.Target.TheVariants as To
 use Rattle.rb_rows.specs.Faults.{header_fault}
 use Rattle.rb_rows.specs.Columns.{state_columns, state_targets}
-use Rattle.rb_rows.specs.Record.{fields_in}
+use Rattle.rb_record.specs.Record.{fields_in}
 
 -- a field that begins with # is a remark
 abbrev pub is_remark : List ℕ → Bool

@@ -15,7 +15,8 @@ use Rattle.rb_rows.specs.Columns.{state_columns, state_targets}
 use Rattle.rb_rows.specs.declared.task.Task.{Task}
 use Rattle.rb_rows.specs.Head.{line_of, head_fields}
 use Rattle.rb_rows.specs.Header.{is_remark, header_of, HasPlaces}
-use Rattle.rb_rows.specs.Record.{fields_in, is_plain, parts_of}
+use Rattle.rb_record.specs.Record.{fields_in}
+use Rattle.rb_rows.specs.Plain.{is_plain, parts_of}
 use Rattle.rb_rows.specs.Row.{row_of}
 
 -- ---- headers

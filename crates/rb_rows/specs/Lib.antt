@@ -1,6 +1,6 @@
--- Read `Row` first: the state that a line tells, over `Record`, the fields of a line. `Header` says what the fields of a header stand for, over
+-- Read `Row` first: the state that a line tells, over the fields of the line. `Plain` has the lines that are split at their commas. `Header` says what the fields of a header stand for, over
 -- `Columns`, the columns of a robot's states. `Faults` has the faults of fields, and how they are told. `Head` has the lines of names. `Laws` says what headers and rows mean.
-pub mod Record
+pub mod Plain
 pub mod Faults
 pub mod Columns
 pub mod Header

@@ -10,7 +10,7 @@ use Rattle.rb_rows.specs.declared.faults.FieldKind.TheVariants.{Count}
 use Rattle.rb_rows.specs.declared.header.Target.{Target}
 use Rattle.rb_rows.specs.declared.header.Target.TheVariants as To
 use Rattle.rb_rows.specs.Faults.{field_fault, kind_of}
-use Rattle.rb_rows.specs.Record.{fields_in}
+use Rattle.rb_record.specs.Record.{fields_in}
 
 -- ---- one number
 -- the row with this number

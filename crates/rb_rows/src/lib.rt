@@ -8,7 +8,6 @@ mod header;
 mod laws;
 mod names;
 mod plain;
-mod record;
 mod row;
 mod task;
 

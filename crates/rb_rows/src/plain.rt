@@ -2,7 +2,7 @@
 ghost use Rattle.std.specs.Prelude.{◌≡◌, ◌≤◌, ◌<◌, ◌+◌, [], ◌∷◌, length, position, count_by};
 ghost use Rattle.std.specs.List.{list_any};
 ghost use Rattle.rb_io.specs.declared.lines.TheConstants.{MOST_LINE};
-ghost use Rattle.rb_rows.specs.Record.{is_mark, is_comma, is_plain, parts_of};
+ghost use Rattle.rb_rows.specs.Plain.{is_mark, is_comma, is_plain, parts_of};
 
 use memchr::{memchr_iter, memchr3};
 

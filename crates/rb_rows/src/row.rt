@@ -6,13 +6,13 @@ ghost use Rattle.rb_tree.specs.State.{Fits};
 ghost use Rattle.rb_rows.specs.declared.faults.FieldFault.{FieldFault};
 ghost use Rattle.rb_rows.specs.declared.faults.LineFault.TheVariants as LineFault;
 ghost use Rattle.rb_rows.specs.Header.{HasPlace, HasPlaces};
-ghost use Rattle.rb_rows.specs.Record.{parts_of};
+ghost use Rattle.rb_rows.specs.Plain.{parts_of};
 ghost use Rattle.rb_rows.specs.Row.{with_number, told, filled, filled_from, row_told, row_of, IsAlike};
 
 use crate::faults::{FieldFault, FieldKind, LineFault, kind_of};
 use crate::header::{Header, Target};
 use crate::plain::{field_count, first_field, is_plain};
-use crate::record::read_line;
+use rb_record::read_line;
 use csv::ByteRecord;
 use rb_num::Iv;
 use rb_text::read_bracket;

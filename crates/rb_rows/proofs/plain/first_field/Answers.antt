@@ -1,5 +1,5 @@
 use Rattle.std.proofs.Common.{◌+◌, ◌-◌, length, take, drop, sym, ap, arith}
-use Rattle.rb_rows.specs.Record.{is_comma}
+use Rattle.rb_rows.specs.Plain.{is_comma}
 use Rattle.rb_io.proofs.Splits.{slice_split-some, slice_split-none, slice_split-some_part}
 use Rattle.rb_rows.proofs.plain.first_field.Goals as goal
 

@@ -1,5 +1,5 @@
 use Rattle.std.proofs.Common.{◌≡◌, ◌<◌, length, drop}
-use Rattle.rb_rows.specs.Record.{parts_of}
+use Rattle.rb_rows.specs.Plain.{parts_of}
 use Rattle.rb_rows.proofs.RowSteps.{AreRead}
 use Rattle.rb_rows.proofs.row.read_parts.Given as goal
 

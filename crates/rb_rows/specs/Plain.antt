@@ -1,18 +1,7 @@
--- The fields of a line.
-use Rattle.std.specs.Prelude.{ℕ, ◌==◌, List, [], ◌∷◌, Option, None, Some, Bool, false, not, ◌&&◌, ◌||◌}
+-- Plain lines.
+use Rattle.std.specs.Prelude.{ℕ, ◌==◌, List, [], ◌∷◌, Bool, false, not, ◌&&◌, ◌||◌}
 use Rattle.std.specs.List.{list_any, slice_split}
-use Rattle.csv.specs.Reading.{default_config, records, strip_bom}
 
--- the one item of a list
-abbrev pub only : {A : Type 0} → List A → Option A
-only (x ∷ []) = Some x
-only xs = None
-
--- the fields of a line that is exactly one record of comma-separated values, behind a byte order mark or not
-unfoldable pub fields_in : List ℕ → Option (List (List ℕ))
-fields_in line = only (records default_config (strip_bom line))
-
--- ---- plain lines
 -- a quote, or an end of a line
 abbrev pub is_mark : ℕ → Bool
 is_mark byte = (byte == 34) || (byte == 13) || (byte == 10)

@@ -2,8 +2,8 @@ use Rattle.std.proofs.Common.{◌≡◌, ◌∙◌, Bool, inl, inr, true, false,
 use Rattle.std.specs.Prelude.{ℕ, List, is_some}
 use denote.Ref.{Bor}
 use Rattle.csv.specs.Reading.{builder_config, builder_trim, builder_names_headers}
-use Rattle.rb_rows.proofs.Records.{none_read, read_twice, few_fields}
-use Rattle.rb_rows.proofs.record.read_line.Goals as goal
+use Rattle.rb_record.proofs.Records.{none_read, read_twice, few_fields}
+use Rattle.rb_record.proofs.fields.read_line.Goals as goal
 
 pub returns-then-not-found-clause-one : goal.returns-then-not-found-clause-one
 returns-then-not-found-clause-one c =
@@ -40,4 +40,4 @@ returns-in-Ok-read_byte_record-clause-fields c =
     not_true false e = refl
 
 pub returns-in-Ok-read_byte_record-clause-few : goal.returns-in-Ok-read_byte_record-clause-few
-returns-in-Ok-read_byte_record-clause-few c one = omega (arith, c.requires, few_fields _ _ (returns-in-Ok-read_byte_record-clause-fields c one))
+returns-in-Ok-read_byte_record-clause-few c one = omega (arith, few_fields _ _ (returns-in-Ok-read_byte_record-clause-fields c one))

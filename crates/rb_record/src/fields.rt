@@ -1,8 +1,7 @@
 // Lines of comma-separated values.
 ghost use Rattle.std.specs.Prelude.{◌≡◌, ◌≤◌, ◌+◌, length, IfOk, Some, is_some, true};
 ghost use Rattle.csv.specs.Records.{fields_of};
-ghost use Rattle.rb_io.specs.declared.lines.TheConstants.{MOST_LINE};
-ghost use Rattle.rb_rows.specs.Record.{fields_in};
+ghost use Rattle.rb_record.specs.Record.{fields_in};
 
 use csv::{ByteRecord, ReaderBuilder};
 use std::alloc::{AllocError, Global};
@@ -10,15 +9,10 @@ use std::alloc::{AllocError, Global};
 /// Reads a line, and tells whether it is exactly one record, which then has its fields.
 ///
 /// A reader of bytes in memory does not fail, but its contract does not say so: that would be answered as want of memory.
-pub(crate) fn read_line(
-    alloc: Global,
-    line: &[u8],
-    fields: &mut ByteRecord,
-) -> Result<bool, AllocError>
-    requires { length line.now ≤ MOST_LINE }
+pub fn read_line(alloc: Global, line: &[u8], fields: &mut ByteRecord) -> Result<bool, AllocError>
     ensures one { IfOk result (λ one. one ≡ is_some (fields_in line.now)) }
     ensures fields { IfOk result (λ one. one ≡ true → fields_in line.now ≡ Some (fields_of fields.new)) }
-    ensures few { IfOk result (λ one. one ≡ true → length (fields_of fields.new) ≤ MOST_LINE + 1) }
+    ensures few { IfOk result (λ one. one ≡ true → length (fields_of fields.new) ≤ length line.now + 1) }
 {
     let mut reader = ReaderBuilder::new()
         .has_headers(false)

@@ -11,7 +11,7 @@ use Rattle.csv.specs.declared.parser.Config.{Config}
 use Rattle.csv.specs.declared.reader.Reader.{Reader}
 use Rattle.csv.specs.declared.parser.State.{State}
 use Rattle.csv.specs.declared.parser.State.TheVariants as st
-use Rattle.rb_rows.specs.Record.{only, fields_in}
+use Rattle.rb_record.specs.Record.{only, fields_in}
 
 -- a record and what comes behind it
 abbrev unless_more : List (List ℕ) → Option Read → Option (List (List ℕ))

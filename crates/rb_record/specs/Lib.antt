@@ -1,0 +1,2 @@
+-- `Record` says which fields a line has.
+pub mod Record

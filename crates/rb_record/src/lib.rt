@@ -1,0 +1,6 @@
+//! One line as a record of comma-separated values.
+#![tactic(auto)]
+
+mod fields;
+
+pub use fields::read_line;
