@@ -11,8 +11,8 @@ ghost use Rattle.rb_rows.specs.Header.{is_remark, is_among, target_named, target
 use crate::columns::{column_texts, names_of};
 use crate::faults::{HeaderFault, HeaderKind};
 use crate::names::Names;
-use rb_record::read_line;
 use csv::ByteRecord;
+use rb_record::read_line;
 use rb_tree::Robot;
 use std::alloc::Global;
 use std::marker::Model;

@@ -12,9 +12,9 @@ ghost use Rattle.rb_rows.specs.Row.{with_number, told, filled, filled_from, row_
 use crate::faults::{FieldFault, FieldKind, LineFault, kind_of};
 use crate::header::{Header, Target};
 use crate::plain::{field_count, first_field, is_plain};
-use rb_record::read_line;
 use csv::ByteRecord;
 use rb_num::Iv;
+use rb_record::read_line;
 use rb_text::read_bracket;
 use rb_tree::State;
 use std::alloc::Global;
