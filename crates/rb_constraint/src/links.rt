@@ -4,8 +4,8 @@ ghost use Rattle.csv.specs.Records.{fields_of};
 ghost use Rattle.rb_tree.specs.Groups.{body_of_link};
 ghost use Rattle.rb_constraint.specs.Read.{link_or_world, links_of};
 
-use crate::record::field;
 use csv::ByteRecord;
+use rb_record::field;
 use rb_tree::Robot;
 
 /// The number of the body whose link has the name.

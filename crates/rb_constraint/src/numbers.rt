@@ -5,9 +5,9 @@ ghost use Rattle.rb_constraint.specs.File.{three_from};
 ghost use Rattle.rb_constraint.specs.Read.{number_of, three_of, is_outside, with_limits, numbers_of, numbers_seen};
 ghost use Rattle.rb_constraint.specs.Constraints.{AreNumbersOrdered};
 
-use crate::record::field;
 use csv::ByteRecord;
 use rb_num::{Iv, S};
+use rb_record::field;
 use rb_spatial::Vec3;
 use rb_text::read_bracket;
 

@@ -1,6 +1,5 @@
 // The constraints of a file.
 ghost use Rattle.std.specs.Prelude.{◌≡◌, ◌≢◌, ◌⊎◌, ◌≤◌, ◌<◌, ◌+◌, ◌-◌, ◌^◌, ◌∷◌, [], length, IfOk, IfErr, OnOk, Ok, Err, true};
-
 ghost use Rattle.csv.specs.Records.{fields_of};
 ghost use Rattle.rb_result.specs.Steps.{Gives};
 ghost use Rattle.rb_flat.specs.Contact.{RowsFit};
@@ -19,8 +18,9 @@ use crate::faults::{ConFault, ConKind, fault};
 use crate::lines::{Kept, next_kept};
 use crate::links::read_links;
 use crate::numbers::read_numbers;
-use crate::record::{field, read_record};
+use crate::record::read_record;
 use csv::ByteRecord;
+use rb_record::field;
 use rb_tags::Text;
 use rb_tree::Robot;
 use std::alloc::{AllocError, Global};

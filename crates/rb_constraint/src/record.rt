@@ -1,43 +1,14 @@
 // The fields of a line.
-ghost use Rattle.std.specs.Prelude.{◌≡◌, ◌≤◌, length, IfOk, Some, is_some, true, false};
-ghost use Rattle.std.specs.Str.{is_utf8};
-ghost use Rattle.std.specs.List.{list_all};
+ghost use Rattle.std.specs.Prelude.{◌≡◌, IfOk, Some, is_some, true};
 ghost use Rattle.csv.specs.Records.{fields_of};
-ghost use Rattle.rb_constraint.specs.File.{field};
 ghost use Rattle.rb_constraint.specs.Read.{is_whole, record_of};
 
 use csv::ByteRecord;
-use rb_record::read_line;
+use rb_record::{are_text, field, read_line};
 use std::alloc::{AllocError, Global};
 
 /// How many fields a constraint has.
 const FIELDS: usize = 12;
-
-/// The field of this number, from 0.
-pub(crate) fn field(fields: &ByteRecord, k: usize) -> &[u8]
-    ensures { result.now ≡ field k (fields_of fields.now) }
-{
-    fields.get(k).unwrap_or(b"")
-}
-
-/// Whether a text is in UTF-8.
-fn is_utf8(text: &[u8]) -> bool
-    ensures { result ≡ is_utf8 text.now }
-{
-    std::str::from_utf8(text).is_ok()
-}
-
-/// Whether each field is in UTF-8.
-fn are_text(fields: &ByteRecord) -> bool
-    ensures { result ≡ list_all is_utf8 (fields_of fields.now) }
-{
-    for k in 0..fields.len() {
-        if !is_utf8(field(fields, k)) {
-            return false;
-        }
-    }
-    true
-}
 
 /// Whether fields are as many as a constraint has, in UTF-8, and the first is not empty.
 #[tactic(auto, unfolding(crate::specs::Read::is_whole))]

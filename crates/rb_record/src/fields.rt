@@ -1,5 +1,7 @@
 // Lines of comma-separated values.
-ghost use Rattle.std.specs.Prelude.{◌≡◌, ◌≤◌, ◌+◌, length, IfOk, Some, is_some, true};
+ghost use Rattle.std.specs.Prelude.{◌≡◌, ◌≤◌, ◌+◌, [], length, get_or, IfOk, Some, is_some, true};
+ghost use Rattle.std.specs.List.{list_all};
+ghost use Rattle.std.specs.Str.{is_utf8};
 ghost use Rattle.csv.specs.Records.{fields_of};
 ghost use Rattle.rb_record.specs.Record.{fields_in};
 
@@ -29,4 +31,30 @@ pub fn read_line(alloc: Global, line: &[u8], fields: &mut ByteRecord) -> Result<
         Ok(found) => Ok(!found),
         Err(_) => Err(AllocError),
     }
+}
+
+/// The field of this number from 0, or an empty one where there is none.
+pub fn field(fields: &ByteRecord, k: usize) -> &[u8]
+    ensures { result.now ≡ get_or (fields_of fields.now) k [] }
+{
+    fields.get(k).unwrap_or(b"")
+}
+
+/// Whether a text is in UTF-8.
+fn is_utf8(text: &[u8]) -> bool
+    ensures { result ≡ is_utf8 text.now }
+{
+    std::str::from_utf8(text).is_ok()
+}
+
+/// Whether each field is in UTF-8.
+pub fn are_text(fields: &ByteRecord) -> bool
+    ensures { result ≡ list_all is_utf8 (fields_of fields.now) }
+{
+    for k in 0..fields.len() {
+        if !is_utf8(field(fields, k)) {
+            return false;
+        }
+    }
+    true
 }

@@ -3,4 +3,4 @@
 
 mod fields;
 
-pub use fields::read_line;
+pub use fields::{are_text, field, read_line};
