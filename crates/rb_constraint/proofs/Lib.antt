@@ -1,0 +1,6 @@
+pub mod AxesLaws
+pub mod LineLaws
+pub mod FieldLaws
+pub mod StepLaws
+pub mod RowLaws
+pub mod FileLaws

@@ -31,7 +31,7 @@ is_empty (byte ∷ bytes) = false
 
 -- whether fields are twelve in UTF-8, of which the first is not empty
 unfoldable pub is_whole : List (List ℕ) → Bool
-is_whole fields = (length fields == 12) && list_all is_utf8 fields && not (is_empty (name_in fields))
+is_whole fields = (length fields == 12) && (list_all is_utf8 fields && not (is_empty (name_in fields)))
 
 abbrev pub if_whole : List (List ℕ) → Option (List (List ℕ))
 if_whole fields = if is_whole fields then Some fields else None
@@ -153,7 +153,7 @@ constraints_in tree made (line ∷ lines) = added tree made line >>= λ more. co
 -- those of the lines of a file
 unfoldable pub file_with : Tree → List NumberedLine → Result (List Constraint) ConFault
 file_with tree [] = Err (fault_at kind.BadHeader 0)
-file_with tree (first ∷ behind) = if bytes_eq first.content header then constraints_in tree [] behind else Err (fault_at kind.BadHeader first.number)
+file_with tree (first ∷ behind) = if not (bytes_eq first.content header) then Err (fault_at kind.BadHeader first.number) else constraints_in tree [] behind
 
 unfoldable pub file_of : Tree → List ℕ → Result (List Constraint) ConFault
 file_of tree text = file_with tree (lines_of text)
