@@ -143,14 +143,20 @@ module _ (x y z a b c : Bool) where
 
   spelt-read : axes_behind (spelt x y z a b c) ≡ Some (record { x = x; y = y; z = z; a = a; b = b; c = c })
   spelt-read =
-      let ey = to-y in
-      let ez = to-z _ ey in
-      let ea = to-a _ ez in
-      let eb = to-b _ ea in
-      let ec = to-c _ eb in
-      let ee = to-end _ ec in
-      steps _ _ _ _ _ _ _ (begins-held 120 x at-y refl no-x) (ap (begins 121) ey ∙ begins-held 121 y at-z refl no-y) (ap (begins 122) ez ∙ begins-held 122 z at-a refl no-z)
-      (ap (begins 97) ea ∙ begins-held 97 a at-b refl no-a) (ap (begins 98) eb ∙ begins-held 98 b at-c refl no-b) (ap (begins 99) ec ∙ begins-held 99 c [] refl refl) ee
+      let t1 = behind 120 at-x in
+      let t2 = behind 121 t1 in
+      let t3 = behind 122 t2 in
+      let t4 = behind 97 t3 in
+      let t5 = behind 98 t4 in
+      let t6 = behind 99 t5 in
+      let e1 : t1 ≡ at-y = to-y in
+      let e2 : t2 ≡ at-z = to-z t1 e1 in
+      let e3 : t3 ≡ at-a = to-a t2 e2 in
+      let e4 : t4 ≡ at-b = to-b t3 e3 in
+      let e5 : t5 ≡ at-c = to-c t4 e4 in
+      let e6 : t6 ≡ [] = to-end t5 e5 in
+      steps at-x t1 t2 t3 t4 t5 t6 (begins-held 120 x at-y refl no-x) (ap (begins 121) e1 ∙ begins-held 121 y at-z refl no-y) (ap (begins 122) e2 ∙ begins-held 122 z at-a refl no-z)
+      (ap (begins 97) e3 ∙ begins-held 97 a at-b refl no-a) (ap (begins 98) e4 ∙ begins-held 98 b at-c refl no-b) (ap (begins 99) e5 ∙ begins-held 99 c [] refl refl) e6
     where
       steps : (t y' z' a' b' c' end : List ℕ) → begins 120 t ≡ x → begins 121 y' ≡ y → begins 122 z' ≡ z → begins 97 a' ≡ a → begins 98 b' ≡ b → begins 99 c' ≡ c → end ≡ []
           → known t y' z' a' b' c' end ≡ Some (record { x = x; y = y; z = z; a = a; b = b; c = c })

@@ -1,9 +1,11 @@
 -- What the fields of a record say: records, links and numbers.
 use Rattle.std.proofs.Common.{◌≡◌, ◌≢◌, ◌||◌, not, ℕ, T, Bool, true, false, cond, pos, ℤ, ◌≤ℤ◌, ◌<ℤ◌, List, [], ◌∷◌, length, Option, Some, None, Result, Ok, Err, refl, sym, ap, ◌∙◌, subst, arith, true≢false, eqb-true, eq-eqb}
-use Rattle.std.specs.Prelude.{option_map, option_and_then, ◌==◌}
+use Rattle.std.specs.Prelude.{option_map, option_and_then, is_some, ◌==◌}
+use Rattle.std.specs.Result.{MatchResult, IsOk}
 use Rattle.std.specs.Int.Signed.{lt_z, lt_z_yes, lt_z_no}
 use Rattle.std.specs.List.{list_all}
-use Rattle.std.specs.Str.{is_utf8}
+use Rattle.std.specs.Str.{is_utf8, IsUtf8}
+use Rattle.std.proofs.lemmas.Str.{IsUtf8-from_is_utf8}
 use Rattle.std.proofs.lemmas.Int.{ints}
 use Rattle.std.proofs.lemmas.Bool.{and_parts}
 use Rattle.rb_frac.specs.Ops.{V3}
@@ -173,3 +175,40 @@ pub numbers-read : (fields : List (List ℕ)) (n : RowNumbers Interval) → AreN
 unfolding numbers_of
 numbers-read fields n are =
     rw (three-read (three_from 3 fields) n.first_point are.first_point, three-read (three_from 7 fields) n.second_point are.second_point, number-read (field 10 fields) n.compliance are.compliance, number-read (field 11 fields) n.restitution are.restitution, inside-read n are.within) refl
+
+-- ---- what tests of a record show
+pub record_tested : (line : List ℕ) (fields : List (List ℕ)) (whole : Bool) → fields_in line ≡ Some fields → whole ≡ is_whole fields → whole ≡ is_some (record_of line)
+unfolding record_of
+record_tested line fields whole read is = is ∙ by (is_whole fields) ∙ ap (λ o. is_some (option_and_then if_whole o)) (sym read)
+  where
+    by : (b : Bool) → b ≡ is_some (cond b (Some fields) None)
+    by true = refl
+    by false = refl
+
+pub record_found : (line : List ℕ) (fields : List (List ℕ)) (whole : Bool) → fields_in line ≡ Some fields → whole ≡ is_whole fields → whole ≡ true → record_of line ≡ Some fields
+unfolding record_of
+record_found line fields whole read is yes = ap (option_and_then if_whole) read ∙ ap (λ b. cond b (Some fields) None) (sym is ∙ yes)
+
+pub record_none : (line : List ℕ) (one : Bool) → one ≡ is_some (fields_in line) → one ≡ false → one ≡ is_some (record_of line)
+unfolding record_of
+record_none line one is no = no ∙ by (fields_in line) (sym no ∙ is)
+  where
+    by : (o : Option (List (List ℕ))) → false ≡ is_some o → false ≡ is_some (option_and_then if_whole o)
+    by None e = refl
+    by (Some x) e = absurd (true≢false (sym e))
+
+-- the name of a record is text
+first-text : (fields : List (List ℕ)) → list_all is_utf8 fields ≡ true → length fields ≡ 12 → is_utf8 (field 0 fields) ≡ true
+first-text [] all twelve = absurd (omega arith)
+first-text (x ∷ xs) all twelve = (and_parts (is_utf8 x) (list_all is_utf8 xs) all).0
+
+pub name_is_text : (fields : List (List ℕ)) → is_whole fields ≡ true → is_utf8 (name_in fields) ≡ true
+unfolding is_whole
+name_is_text fields whole =
+    let p = and_parts (length fields == 12) _ whole in
+    let q = and_parts (list_all is_utf8 fields) _ p.1 in
+    first-text fields q.0 (eqb-true (length fields) 12 p.0)
+
+pub text_read : {A E : Type 0} (text : List ℕ) (P : A → Type 0) (Q : E → Type 0) (r : Result A E) → MatchResult r (λ s. P s × IsUtf8 text) (λ e. ¬ (IsUtf8 text) × Q e) → is_utf8 text ≡ true → IsOk r
+text_read text P Q (Ok s) cases is = tt
+text_read text P Q (Err e) cases is = absurd (cases.0 (IsUtf8-from_is_utf8 text is))

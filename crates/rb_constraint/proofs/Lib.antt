@@ -1,6 +1,7 @@
 pub mod AxesLaws
 pub mod LineLaws
 pub mod FieldLaws
+pub mod LinkSearch
 pub mod StepLaws
 pub mod RowLaws
 pub mod FileLaws

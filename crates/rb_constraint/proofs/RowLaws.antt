@@ -177,3 +177,7 @@ has_choice list are =
           numbers_lie (k.numbers r) (subst AreNumbersOrdered (sym (numbers_seen list r w.0 w.1)) ordered);
       },
     )
+
+-- no constraints
+pub none_kept : AreConstraints []
+none_kept = record { differ = λ i j d before within. absurd (omega arith); few = omega (arith, ap length rows_of-none); kept = tt }

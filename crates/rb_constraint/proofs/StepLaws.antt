@@ -46,13 +46,13 @@ says-once tree line a b p q =
     (world-once tree q.fields (a.body1, a.body2) (b.body1, b.body2) links q.links)
     (some-once (numbers_of q.fields) (numbers_in a) (numbers_in b) (numbers-read q.fields (numbers_in a) numbers) (numbers-read q.fields (numbers_in b) q.numbers))
 
-pub say-once : (tree : Tree) (lines : List NumberedLine) (as bs : List Constraint) → AllZip (Says tree) lines as → AllZip (Says tree) lines bs → as ≡ bs
+pub say-once : (tree : Tree) (lines : List NumberedLine) (list others : List Constraint) → AllZip (Says tree) lines list → AllZip (Says tree) lines others → list ≡ others
 say-once tree [] [] [] p q = refl
-say-once tree [] (a ∷ as) bs p q = absurd p
-say-once tree [] [] (b ∷ bs) p q = absurd q
-say-once tree (line ∷ lines) [] bs p q = absurd p
-say-once tree (line ∷ lines) (a ∷ as) [] p q = absurd q
-say-once tree (line ∷ lines) (a ∷ as) (b ∷ bs) p q = rw (says-once tree line a b p.0 q.0, say-once tree lines as bs p.1 q.1) refl
+say-once tree [] (a ∷ list) others p q = absurd p
+say-once tree [] [] (b ∷ others) p q = absurd q
+say-once tree (line ∷ lines) [] others p q = absurd p
+say-once tree (line ∷ lines) (a ∷ list) [] p q = absurd q
+say-once tree (line ∷ lines) (a ∷ list) (b ∷ others) p q = rw (says-once tree line a b p.0 q.0, say-once tree lines list others p.1 q.1) refl
 
 -- it has as many rows as letters
 pub rows-counted : (text : List ℕ) (c : Constraint) → IsAxes text c.axes → length text ≡ length (own_rows c)
