@@ -187,11 +187,11 @@ record_tested line fields whole read is = is ∙ by (is_whole fields) ∙ ap (λ
 
 pub record_found : (line : List ℕ) (fields : List (List ℕ)) (whole : Bool) → fields_in line ≡ Some fields → whole ≡ is_whole fields → whole ≡ true → record_of line ≡ Some fields
 unfolding record_of
-record_found line fields whole read is yes = ap (option_and_then if_whole) read ∙ ap (λ b. cond b (Some fields) None) (sym is ∙ yes)
+record_found line fields whole read is passed = ap (option_and_then if_whole) read ∙ ap (λ b. cond b (Some fields) None) (sym is ∙ passed)
 
 pub record_none : (line : List ℕ) (one : Bool) → one ≡ is_some (fields_in line) → one ≡ false → one ≡ is_some (record_of line)
 unfolding record_of
-record_none line one is no = no ∙ by (fields_in line) (sym no ∙ is)
+record_none line one is failed = failed ∙ by (fields_in line) (sym failed ∙ is)
   where
     by : (o : Option (List (List ℕ))) → false ≡ is_some o → false ≡ is_some (option_and_then if_whole o)
     by None e = refl
@@ -210,5 +210,8 @@ name_is_text fields whole =
     first-text fields q.0 (eqb-true (length fields) 12 p.0)
 
 pub text_read : {A E : Type 0} (text : List ℕ) (P : A → Type 0) (Q : E → Type 0) (r : Result A E) → MatchResult r (λ s. P s × IsUtf8 text) (λ e. ¬ (IsUtf8 text) × Q e) → is_utf8 text ≡ true → IsOk r
-text_read text P Q (Ok s) cases is = tt
+text_read text P Q (Ok s) cases is = refl
 text_read text P Q (Err e) cases is = absurd (cases.0 (IsUtf8-from_is_utf8 text is))
+
+pub record_whole : (line : List ℕ) (fields : List (List ℕ)) → record_of line ≡ Some fields → is_whole fields ≡ true
+record_whole line fields h = whole-read line fields (record-says line fields h)

@@ -2,7 +2,7 @@
 use Rattle.std.proofs.Common.{◌≡◌, ◌≢◌, ◌≤◌, ◌+◌, ℕ, not, Bool, true, false, cond, List, [], ◌∷◌, ◌++◌, length, Result, Ok, Err, inl, inr, refl, sym, ap, ◌∙◌, subst, arith, true≢false, append_assoc}
 use Rattle.std.specs.Prelude.{bytes_eq, AllPairs}
 use Rattle.std.specs.List.{AllZip, AllByRecursion}
-use Rattle.std.proofs.lemmas.List.{append-nil}
+use Rattle.std.proofs.lemmas.List.{append-nil, length-append}
 use Rattle.rb_result.specs.Steps.{◌>>=◌, placed}
 use Rattle.rb_result.proofs.Results.{then-ok, placed-ok, unless-ok, not-both}
 use Rattle.rb_tags.specs.InOrder.{Refusal, ◌when◌, IsFirst, at_place}
@@ -86,14 +86,8 @@ module _ (tree : Tree) where
   more-made lines list line c are is = record {
     say = zip-push (Says tree) lines list line c are.say is.say;
     differ = pairs-push (λ a b. a.name ≢ b.name) (λ x y. bytes_eq y.name x.name) named-apart list c are.differ is.new;
-    few = let size = ap length (rows_of-push list c) in few size;
+    few = omega (arith, is.few, ap length (rows_of-push list c), length-append (rows_of list) (own_rows c));
   }
-    where
-      few : length (rows_of (list ++ c ∷ [])) ≡ length (rows_of list ++ own_rows c) → length (rows_of (list ++ c ∷ [])) ≤ MAX_ROWS
-      few size = rw (size, length-both) is.few
-
-      length-both : length (rows_of list ++ own_rows c) ≡ length (rows_of list) + length (own_rows c)
-      length-both = simp length-append refl
 
   all-made : (before : List NumberedLine) (made : List Constraint) (lines : List NumberedLine) (list : List Constraint) → AreMade before made → constraints_in tree made lines ≡ Ok list → AreMade (before ++ lines) list
   unfolding constraints_in
@@ -134,7 +128,7 @@ lines-say tree text list h read =
     let are = all-made tree [] [] h.behind list (none-made tree) read in
     record { header = h; say = are.say; differ = are.differ; few = are.few }
 
-file-says : (tree : Tree) (text : List ℕ) (list : List Constraint) → file_of tree text ≡ Ok list → IsFile tree text list
+pub file-says : (tree : Tree) (text : List ℕ) (list : List Constraint) → file_of tree text ≡ Ok list → IsFile tree text list
 unfolding file_of file_with
 file-says tree text list h = by (lines_of text) refl h
   where
@@ -190,3 +184,17 @@ all-kept tree (line ∷ lines) (c ∷ list) each ordered = (
 
 pub file_kept : (tree : Tree) (text : List ℕ) (list : List Constraint) → IsFile tree text list → AreAllOrdered list → AreConstraints list
 file_kept tree text list file ordered = record { differ = file.differ; few = file.few; kept = all-kept tree file.header.behind list file.say ordered }
+
+-- ---- the header
+pub header-none : (tree : Tree) (text : List ℕ) (fault : ConFault) → lines_of text ≡ [] → fault ≡ fault_at kind.BadHeader 0 → file_of tree text ≡ Err fault
+unfolding file_of file_with
+header-none tree text fault none is = rw (none, is) refl
+
+pub header-other : (tree : Tree) (text : List ℕ) (first : NumberedLine) (behind : List NumberedLine) (fault : ConFault) → lines_of text ≡ first ∷ behind → not (bytes_eq first.content header) ≡ true
+    → fault ≡ fault_at kind.BadHeader first.number → file_of tree text ≡ Err fault
+unfolding file_of file_with
+header-other tree text first behind fault lines other is = rw (lines, other, is) refl
+
+pub header-same : (tree : Tree) (text : List ℕ) (first : NumberedLine) (behind : List NumberedLine) → lines_of text ≡ first ∷ behind → not (bytes_eq first.content header) ≡ false → file_of tree text ≡ constraints_in tree [] behind
+unfolding file_of file_with
+header-same tree text first behind lines same = rw (lines, same) refl
