@@ -52,13 +52,13 @@ behind-say text axes h =
     let found : Axes = record { x = begins 120 text; y = begins 121 y; z = begins 122 z; a = begins 97 a; b = begins 98 b; c = begins 99 c } in
     let p = ended (behind 99 c) found axes h in
     let spelt-out : text ≡ spelt found.x found.y found.z found.a found.b found.c =
-      split 120 text
-      ∙ ap (where_held found.x 120) (split 121 y
-      ∙ ap (where_held found.y 121) (split 122 z
-      ∙ ap (where_held found.z 122) (split 97 a
-      ∙ ap (where_held found.a 97) (split 98 b
-      ∙ ap (where_held found.b 98) (split 99 c
-      ∙ ap (where_held found.c 99) p.0))))) in
+    split 120 text
+    ∙ ap (where_held found.x 120) (split 121 y
+    ∙ ap (where_held found.y 121) (split 122 z
+    ∙ ap (where_held found.z 122) (split 97 a
+    ∙ ap (where_held found.a 97) (split 98 b
+    ∙ ap (where_held found.b 98) (split 99 c
+    ∙ ap (where_held found.c 99) p.0))))) in
     spelt-out ∙ sym (letters-spelt found) ∙ ap letters p.1
 
 pub axes-say : (text : List ℕ) (axes : Axes) → axes_of text ≡ Some axes → IsAxes text axes

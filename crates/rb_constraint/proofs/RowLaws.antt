@@ -165,16 +165,15 @@ rows_ordered list are = each-row IsConstraintKept (λ w. AreNumbersOrdered (flat
 
 pub has_choice : HasChoice
 has_choice list are =
-    let k = constraints_of list in
-    (
+    let k = constraints_of list in (
       record { rows = k.rows; row = k.row; numbers = λ r. lowest_numbers (k.numbers r) },
       record {
         rows = refl;
         row = λ r there. refl;
         numbers = λ r there.
-          let w = row_there list r there in
-          let ordered = row_such (λ w. AreNumbersOrdered (flat_numbers w)) list r w.0 (rows_ordered list are) w.1 in
-          numbers_lie (k.numbers r) (subst AreNumbersOrdered (sym (numbers_seen list r w.0 w.1)) ordered);
+            let w = row_there list r there in
+            let ordered = row_such (λ w. AreNumbersOrdered (flat_numbers w)) list r w.0 (rows_ordered list are) w.1 in
+            numbers_lie (k.numbers r) (subst AreNumbersOrdered (sym (numbers_seen list r w.0 w.1)) ordered);
       },
     )
 
