@@ -5,3 +5,7 @@ pub mod LinkSearch
 pub mod StepLaws
 pub mod RowLaws
 pub mod FileLaws
+mod Upward
+mod RowPass
+mod BiasPass
+mod RowsLie

@@ -3,6 +3,7 @@
 #![tactic(auto)]
 
 mod axes;
+mod bias;
 mod constraints;
 mod faults;
 mod laws;
@@ -11,12 +12,16 @@ mod links;
 mod numbers;
 mod read;
 mod record;
+mod rows;
+mod ways;
 
 pub use axes::{Axes, Direction};
+pub use bias::fill_bias;
 pub use constraints::{Constraint, Constraints, MAX_ROWS, Row};
 pub use faults::{ConFault, ConKind};
 pub use laws::{choice_law, file_law};
 pub use read::read_constraints;
+pub use rows::fill_rows;
 
 #[cfg(test)]
 mod tests;

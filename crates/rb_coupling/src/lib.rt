@@ -1,0 +1,13 @@
+//! The coupling of rows of constraints over the factors that a work holds, and the forces of the rows (Featherstone, Rigid Body Dynamics Algorithms, chapter
+//! 8), in intervals.
+#![tactic(auto)]
+
+mod couple;
+mod eliminate;
+mod forces;
+pub mod laws;
+mod rows;
+mod sums;
+
+pub use couple::couple;
+pub use forces::{add_row_forces, row_forces, row_sides};
