@@ -1,11 +1,11 @@
 -- The letters of axes, and how they are read.
-use Rattle.std.proofs.Common.{◌≡◌, ◌≢◌, ◌==◌, ℕ, Bool, true, false, cond, List, [], ◌∷◌, map, length, Option, Some, None, refl, sym, ap, ◌∙◌, subst, eqb-true}
+use Rattle.std.proofs.Common.{◌≡◌, ◌≢◌, ◌==◌, ℕ, Bool, true, false, cond, List, [], ◌∷◌, map, length, Option, Some, refl, sym, ap, ◌∙◌, eqb-true}
 use lib.ListN.{length-map}
 use Rattle.rb_constraint.specs.declared.axes.Axes.{Axes}
 use Rattle.rb_constraint.specs.declared.axes.Direction.{Direction}
 use Rattle.rb_constraint.specs.Axes.{letter_of, where_held, directions, letters}
 use Rattle.rb_constraint.specs.File.{IsAxes}
-use Rattle.rb_constraint.specs.Read.{is_empty, begins, behind, at_end, axes_behind, axes_of}
+use Rattle.rb_constraint.specs.Read.{begins, behind, at_end, axes_behind, axes_of}
 
 -- ---- letters
 map-held : (b : Bool) (d : Direction) (rest : List Direction) → map letter_of (where_held b d rest) ≡ where_held b (letter_of d) (map letter_of rest)

@@ -19,7 +19,7 @@ use Rattle.rb_tree.specs.Robot.{Tree}
 use Rattle.rb_tree.specs.Groups.{body_of_link}
 use Rattle.rb_constraint.specs.Constraints.{AreNumbersWithin}
 use Rattle.rb_constraint.specs.File.{field, name_in, first_link, second_link, three_from, IsRecord, IsLinkOrWorld, AreLinks, IsNumber, AreNumbers}
-use Rattle.rb_constraint.specs.Read.{is_empty, is_whole, if_whole, record_of, link_or_world, both, links_of, if_read, number_of, three_of, is_outside, if_within, with_limits, numbers_of}
+use Rattle.rb_constraint.specs.Read.{is_empty, is_whole, if_whole, record_of, link_or_world, both, links_of, if_read, number_of, three_of, is_outside, numbers_of}
 
 -- ---- options
 pub some-once : {A : Type 0} (o : Option A) (x y : A) → o ≡ Some x → o ≡ Some y → x ≡ y

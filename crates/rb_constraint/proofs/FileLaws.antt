@@ -1,12 +1,12 @@
 -- A file has one answer: its constraints, or its first fault.
-use Rattle.std.proofs.Common.{◌≡◌, ◌≢◌, ◌≤◌, ◌+◌, ℕ, not, Bool, true, false, cond, List, [], ◌∷◌, ◌++◌, length, Result, Ok, Err, inl, inr, refl, sym, ap, ◌∙◌, subst, arith, true≢false, append_assoc}
+use Rattle.std.proofs.Common.{◌≡◌, ◌≢◌, ◌≤◌, ℕ, not, Bool, true, false, List, [], ◌∷◌, ◌++◌, length, Result, Ok, Err, inl, refl, sym, ap, ◌∙◌, subst, arith, true≢false, append_assoc}
 use Rattle.std.specs.Prelude.{bytes_eq, AllPairs}
 use Rattle.std.specs.List.{AllZip, AllByRecursion}
 use Rattle.std.proofs.lemmas.List.{append-nil, length-append}
 use Rattle.rb_result.specs.Steps.{◌>>=◌, placed}
-use Rattle.rb_result.proofs.Results.{then-ok, placed-ok, unless-ok, not-both}
-use Rattle.rb_tags.specs.InOrder.{Refusal, ◌when◌, IsFirst, at_place}
-use Rattle.rb_tags.proofs.Obeying.{Obeys, obeys-ok, obeys-err, obeys-value, obeys-placed, obeys-unless, obeys-along, obeys-first, first-once}
+use Rattle.rb_result.proofs.Results.{then-ok, placed-ok, unless-ok}
+use Rattle.rb_tags.specs.InOrder.{◌when◌, at_place}
+use Rattle.rb_tags.proofs.Obeying.{Obeys, obeys-err, obeys-value, obeys-placed, obeys-unless, obeys-along, obeys-first}
 use Rattle.rb_srdf.proofs.GivenLaws.{is-text, same-text, other-text}
 use Rattle.rb_srdf.proofs.Lists.{zip-push, pairs-push, pairs-new}
 use Rattle.rb_tree.specs.Robot.{Tree}
@@ -15,7 +15,7 @@ use Rattle.rb_constraint.specs.declared.faults.ConKind.TheVariants as kind
 use Rattle.rb_constraint.specs.declared.constraints.Constraint.{Constraint}
 use Rattle.rb_constraint.specs.declared.constraints.TheConstants.{MAX_ROWS}
 use Rattle.rb_constraint.specs.Faults.{fault_at}
-use Rattle.rb_constraint.specs.Constraints.{own_rows, rows_of, numbers_of, AreNumbersOrdered, AreAllOrdered, IsConstraintKept, AreConstraints}
+use Rattle.rb_constraint.specs.Constraints.{own_rows, rows_of, AreAllOrdered, IsConstraintKept, AreConstraints}
 use Rattle.rb_constraint.specs.File.{NumberedLine, lines_of, header, axes_in, Says, HasHeader, IsFile}
 use Rattle.rb_constraint.specs.Refusals.{line_refusals, in_order, file_refusals, HasFault}
 use Rattle.rb_constraint.specs.Read.{is_named, constraint_in, added, constraints_in, file_with, file_of}

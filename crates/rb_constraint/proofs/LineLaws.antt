@@ -1,5 +1,5 @@
 -- The lines of a file that are left, one after the other.
-use Rattle.std.proofs.Common.{◌≡◌, ◌⊎◌, inl, inr, ℕ, ◌+◌, true, false, List, [], ◌∷◌, refl, sym, ap, ◌∙◌}
+use Rattle.std.proofs.Common.{◌≡◌, ◌⊎◌, inl, inr, ℕ, ◌+◌, true, false, List, [], ◌∷◌, refl}
 use Rattle.rb_io.specs.Cut.{line, all_lines}
 use Rattle.rb_constraint.specs.File.{numbered_line, is_kept, lines_from}
 

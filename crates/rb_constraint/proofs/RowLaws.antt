@@ -1,9 +1,10 @@
 -- The rows of constraints: where they are, between which bodies, and that there is a choice of their numbers.
-use Rattle.std.proofs.Common.{◌≡◌, ℕ, zero, suc, ◌≤◌, ◌<◌, ◌+◌, pos, List, [], ◌∷◌, ◌++◌, length, map, flat_map, Option, Some, None, refl, sym, ap, ◌∙◌, subst, arith, append_assoc}
+use Rattle.std.proofs.Common.{◌≡◌, ℕ, zero, suc, ◌≤◌, ◌<◌, ◌+◌, ◌-◌, List, [], ◌∷◌, ◌++◌, length, map, get_or, Some, refl, sym, ap, ◌∙◌, subst, arith, append_assoc}
 use Rattle.std.specs.Prelude.{slice_get}
 use Rattle.std.specs.List.{AllZip, AllByRecursion}
 use Rattle.std.specs.Option.{option_map_or}
 use Rattle.std.proofs.lemmas.List.{length-append, append-nil}
+use Rattle.std.proofs.lemmas.Option.{slice_get_read}
 use lib.Signed.{≤ℤ_refl}
 use Rattle.rb_frac.specs.Ops.{V3}
 use Rattle.rb_frac.specs.Frac.{Frac}
@@ -13,19 +14,17 @@ use Rattle.rb_num.specs.Fraction.{LiesIn}
 use Rattle.rb_num.specs.Least.{units}
 use Rattle.rb_num.proofs.Order.{times_pos}
 use Rattle.rb_flat.specs.Choice.{IsOrdered, AreOrdered}
-use Rattle.rb_flat.specs.Contact as Flat
-use Rattle.rb_flat.specs.Contact.{RowNumbers, HasRow, RowFits, RowsFit}
+use Rattle.rb_flat.specs.Contact.{RowNumbers, HasRow, RowFits}
 use Rattle.rb_tree.specs.Robot.{Tree}
 use Rattle.rb_tree.specs.Shape.{shape_of}
-use Rattle.rb_tree.specs.Groups.{body_of_link}
 use Rattle.rb_tree.proofs.GroupNames.{link_there}
 use Rattle.rb_constraint.specs.declared.axes.Direction.{Direction}
 use Rattle.rb_constraint.specs.declared.axes.Direction.TheVariants as To
 use Rattle.rb_constraint.specs.declared.constraints.Constraint.{Constraint}
 use Rattle.rb_constraint.specs.declared.constraints.Row.{Row}
 use Rattle.rb_constraint.specs.Axes.{axis_of, directions}
-use Rattle.rb_constraint.specs.Constraints.{row_of, own_rows, rows_of, row_at, numbers_of, AreNumbersOrdered, IsConstraintKept, AreConstraints, flat_row, flat_numbers, no_row, no_numbers, constraints_of, NumbersChosen, IsConstraintChoice}
-use Rattle.rb_constraint.specs.File.{NumberedLine, second_link, IsLinkOrWorld, Says, IsFile}
+use Rattle.rb_constraint.specs.Constraints.{row_of, own_rows, rows_of, row_at, AreNumbersOrdered, IsConstraintKept, AreConstraints, flat_row, flat_numbers, no_row, no_numbers, constraints_of, NumbersChosen}
+use Rattle.rb_constraint.specs.File.{NumberedLine, second_link, IsLinkOrWorld, Says}
 use Rattle.rb_constraint.specs.Laws.{RowsFitRobot, HasChoice}
 
 -- ---- of one list behind another
@@ -104,6 +103,14 @@ axes_within list = each-row (λ c. Unit {0}) (λ w. w.axis < 3) (λ c d _. axis_
     all : (list : List Constraint) → AllByRecursion (λ c. Unit {0}) list
     all [] = tt
     all (c ∷ list) = (tt, all list)
+
+-- the axis of a row that is read
+pub axis_read : (list : List Constraint) (rows : List Row) (r : ℕ) (w : Row) → HasRow (constraints_of list) r → rows ≡ rows_of list → w ≡ get_or rows (r - 1) w → w.axis < 3
+axis_read list rows r w there are read =
+    let from : 1 ≤ r = there.from in
+    let to : r ≤ length (rows_of list) = there.to in
+    let here : slice_get rows (r - 1) ≡ Some w = slice_get_read rows (length rows) (r - 1) w refl (omega (arith, ap length are)) read in
+    each-there (λ w. w.axis < 3) rows (r - 1) w (subst (AllByRecursion (λ w. w.axis < 3)) (sym are) (axes_within list)) here
 
 -- ---- bodies
 record BodiesThere (tree : Tree) (c : Constraint) : Type 0 where

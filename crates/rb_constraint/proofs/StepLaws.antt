@@ -1,13 +1,12 @@
 -- One line behind those before it: the constraint that it says, and what may be wrong with it.
-use Rattle.std.proofs.Common.{◌≡◌, ◌≢◌, ◌≤◌, ◌<◌, ◌+◌, ℕ, Bool, true, false, cond, List, [], ◌∷◌, length, map, Option, Some, None, Result, Ok, Err, refl, sym, ap, ◌∙◌, subst, arith, true≢false, ltb-true, ltb-false}
+use Rattle.std.proofs.Common.{◌≡◌, ◌≤◌, ◌<◌, ◌+◌, ℕ, Bool, true, false, List, [], ◌∷◌, length, Option, Some, Ok, refl, sym, ap, ◌∙◌, subst, arith, true≢false, ltb-true, ltb-false}
 use Rattle.std.specs.Prelude.{Any, bytes_eq, nat_lt}
 use Rattle.std.specs.List.{AllZip}
 use Rattle.std.specs.Option.{ok_or}
 use lib.ListN.{length-map}
 use Rattle.rb_num.specs.Interval.{Interval}
 use Rattle.rb_flat.specs.Contact.{RowNumbers}
-use Rattle.rb_result.specs.Steps.{◌>>=◌}
-use Rattle.rb_result.proofs.Results.{value, then-ok, found-ok, unless-ok}
+use Rattle.rb_result.proofs.Results.{then-ok, found-ok, unless-ok}
 use Rattle.rb_tags.specs.InOrder.{SaysNone, ◌when◌}
 use Rattle.rb_tags.proofs.Obeying.{Obeys, obeys-ok, obeys-next, obeys-found, obeys-unless}
 use Rattle.rb_srdf.proofs.GivenLaws.{is-text, same-text}
@@ -18,7 +17,7 @@ use Rattle.rb_constraint.specs.declared.faults.ConKind.{ConKind}
 use Rattle.rb_constraint.specs.declared.faults.ConKind.TheVariants as kind
 use Rattle.rb_constraint.specs.declared.constraints.Constraint.{Constraint}
 use Rattle.rb_constraint.specs.declared.constraints.TheConstants.{MAX_ROWS}
-use Rattle.rb_constraint.specs.Axes.{directions, letters}
+use Rattle.rb_constraint.specs.Axes.{directions}
 use Rattle.rb_constraint.specs.Constraints.{row_of, own_rows, rows_of, numbers_of as numbers_in}
 use Rattle.rb_constraint.specs.File.{NumberedLine, name_in, axes_in, IsRecord, IsAxes, AreLinks, AreNumbers, Says}
 use Rattle.rb_constraint.specs.Refusals.{HasFields, LacksRecord, IsNamed, HasNameAgain, LacksAxes, LacksLinks, LacksNumbers, HasTooManyRows, line_refusals}

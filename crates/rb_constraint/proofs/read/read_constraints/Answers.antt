@@ -1,8 +1,5 @@
 use Rattle.std.proofs.Common.{◌∙◌, inl, inr, sym, subst}
 use Rattle.std.proofs.lemmas.Result.{err_from_is_err_and}
-use Rattle.rb_flat.specs.Contact.{RowsFit}
-use Rattle.rb_tree.specs.Shape.{shape_of}
-use Rattle.rb_constraint.specs.Constraints.{constraints_of}
 use Rattle.rb_constraint.specs.File.{IsFile}
 use Rattle.rb_constraint.proofs.RowLaws.{rows_fit}
 use Rattle.rb_constraint.proofs.FileLaws.{file-says, file-refused, file_kept}

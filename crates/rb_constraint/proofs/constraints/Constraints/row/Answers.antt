@@ -1,10 +1,7 @@
-use Rattle.std.proofs.Common.{◌≡◌, ◌<◌, Some, arith}
-use Rattle.std.proofs.lemmas.Grind.{common_steps}
-use Rattle.rb_constraint.specs.Constraints.{row_at}
-use Rattle.rb_constraint.proofs.RowLaws.{axes_within, row_such}
+use Rattle.std.proofs.Common.{◌∙◌, ap}
+use Rattle.rb_constraint.specs.Constraints.{rows_of}
+use Rattle.rb_constraint.proofs.RowLaws.{axis_read}
 use Rattle.rb_constraint.proofs.constraints.Constraints.row.Goals as goal
 
 pub returns-clause-axis : goal.returns-clause-axis
-returns-clause-axis c =
-    let here : row_at c.args.self.now c.args.r ≡ Some c.index.result.now = grind (arith, common_steps) in
-    row_such (λ w. w.axis < 3) c.args.self.now c.args.r c.index.result.now (axes_within c.args.self.now) here
+returns-clause-axis c = axis_read c.args.self.now _ c.args.r c.index.result.now c.requires (c.self.invariant.0 ∙ ap rows_of c.self.view_is) c.index.ensures
