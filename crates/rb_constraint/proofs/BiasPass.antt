@@ -1,14 +1,13 @@
 -- The values of the bias of rows, and the first refusal, are determined by the constraints, the motions, the turns and the forces of rows alone.
-use Rattle.std.proofs.Common.{◌≡◌, ℕ, zero, suc, ◌+◌, ◌<◌, ◌≤◌, List, [], ◌∷◌, length, Result, Ok, Err, inl, inr, refl, ap, ◌∙◌, sym, arith}
+use Rattle.std.proofs.Common.{◌≡◌, ℕ, ◌+◌, ◌≤◌, [], ◌∷◌, length, Ok, Err, inl, refl, ap, ◌∙◌, sym, arith}
 use Rattle.rb_num.specs.Interval.{Interval}
-use Rattle.rb_result.specs.Steps.{◌>>=◌}
 use Rattle.rb_flat.specs.Contact.{Constraints, HasRow, RowsFit}
-use Rattle.rb_sweep.specs.Sweep.{Among, upward}
+use Rattle.rb_sweep.specs.Sweep.{Among}
 use Rattle.rb_sweep.proofs.Climbing.{climbs_upward, among_upward, run_upward}
 use Rattle.rb_sweep.proofs.NamingLaws.{found, refusal, same_values, not_both, one_refusal}
 use Rattle.rb_work.specs.declared.names.RowFault.{RowFault}
 use Rattle.rb_work.specs.Path.{Ascends}
-use Rattle.rb_work.specs.View.{View, Extent, IsSized, extent_of, v_at, a_at, O_at, K_at, g_at}
+use Rattle.rb_work.specs.View.{View, Extent, IsSized, extent_of, v_at, a_at, O_at, K_at}
 use Rattle.rb_work.specs.Place.{Place, v_of, a_of, O_of, K_of, g_of, ValueOf, look, put}
 use Rattle.rb_work.proofs.PlaceLaws.{Inside, Call, IsCall, naming, ordered}
 use Rattle.rb_work.proofs.Sizes.{room_for}

@@ -9,3 +9,8 @@ mod Upward
 mod RowPass
 mod BiasPass
 mod RowsLie
+mod BiasLies
+mod Slots
+mod WaysLie
+mod TableLies
+mod RowsEnclose

@@ -1,5 +1,5 @@
 -- The values of rows of constraints, and the first refusal, are determined by the robot, the constraints and the places alone.
-use Rattle.std.proofs.Common.{◌≡◌, ℕ, zero, suc, ◌+◌, ◌*◌, ◌<◌, ◌≤◌, ◌==◌, if◌then◌else◌, List, [], ◌∷◌, ◌++◌, length, flat_map, replicate, slice_get, slice_index_or, Bool, true, false, Option, None, Result, Ok, Err, inl, inr, refl, ap, sym, ◌∙◌, arith}
+use Rattle.std.proofs.Common.{◌≡◌, ℕ, zero, suc, ◌+◌, ◌*◌, ◌<◌, ◌≤◌, ◌==◌, if◌then◌else◌, List, [], ◌∷◌, length, flat_map, replicate, slice_get, Bool, true, false, Option, None, Result, Ok, Err, inl, inr, refl, ap, sym, ◌∙◌, arith}
 use Rattle.std.specs.Option.{option_map_or}
 use Rattle.std.proofs.lemmas.Bool.{cases_lt}
 use Rattle.std.proofs.lemmas.List.{length-replicate}
@@ -31,8 +31,8 @@ use Rattle.rb_tree.specs.Shape.{shape_of}
 use Rattle.rb_tree.specs.Places.{IsFor}
 use Rattle.rb_constraint.specs.declared.ways.Way.{Way}
 use Rattle.rb_constraint.specs.declared.ways.Ways.{Ways}
-use Rattle.rb_constraint.specs.Rows.{parents_of, turn_by, O_rule, force_by, forces_by, K_rule, leave, entries_at_body, at_body, start_of, way_from, ways_by, column_by, J_rule, HasEntry, AreRows, rule, turn_order, row_names, row_order, order, SamePlaces, IsRowRefused, SameRows, RowsHaveOneAnswer}
-use Rattle.rb_constraint.specs.Steps.{turn_step, turns_of, entry_step, put_of, entries_step, row_step, lines_of, fills_of}
+use Rattle.rb_constraint.specs.Rows.{parents_of, turn_by, O_rule, force_by, forces_by, K_rule, leave, entries_at_body, at_body, start_of, way_from, ways_by, column_by, J_rule, HasEntry, AreRows, rule, turn_order, row_names, row_order, order, SamePlaces, IsRowRefused, RowsHaveOneAnswer}
+use Rattle.rb_constraint.specs.Steps.{turn_step, entry_step, put_of, entries_step, row_step, lines_of, fills_of}
 
 -- ---- what the rules read
 none_past : (bodies : List Body) (k : ℕ) → length bodies ≤ k → slice_get bodies k ≡ None
@@ -309,10 +309,10 @@ module _ (tree : Tree) (k : Constraints Interval) (kept : AreBodies tree.bodies)
   pub one_answer : RowsHaveOneAnswer tree k
   one_answer = record {
     values = λ u w same hu hw. record {
-        turns = λ i there. values_same u w same hu hw (O_of i) there;
-        forces = λ r there. values_same u w same hu hw (K_of r) there;
-        table = λ r c there. values_same u w same hu hw (J_of r c) there;
-      };
+      turns = λ i there. values_same u w same hu hw (O_of i) there;
+      forces = λ r there. values_same u w same hu hw (K_of r) there;
+      table = λ r c there. values_same u w same hu hw (J_of r c) there;
+    };
     either = λ u w e same hu r.
         not_both _ _ (ordered (call tree k some_extent) some_call) u r.values e (λ g. given u w same g.0 g.1 ∙ given w r.values r.places g.0 g.1) (holds u hu) r.first;
     refusal = λ u w d e same q r.

@@ -1,14 +1,13 @@
 -- The turns of the bodies and the vectors of the rows lie in the values of the work.
-use Rattle.std.proofs.Common.{◌≡◌, ℕ, zero, suc, ◌<◌, ◌≤◌, ◌==◌, Bool, true, false, if◌then◌else◌, List, [], ◌∷◌, length, slice_index_or, Result, Ok, Err, refl, sym, ap, subst, arith}
-use Rattle.rb_result.specs.Steps.{◌>>=◌}
+use Rattle.std.proofs.Common.{◌≡◌, ℕ, zero, suc, ◌<◌, ◌≤◌, ◌==◌, Bool, true, false, if◌then◌else◌, List, [], ◌∷◌, length, slice_index_or, Ok, refl, sym, subst, arith}
 use Rattle.rb_result.proofs.Results.{same_ok, then-ok, told-ok}
-use Rattle.rb_frac.specs.Ops.{V3, vadd, vscale, vdot, vcross}
+use Rattle.rb_frac.specs.Ops.{V3, vdot}
 use Rattle.rb_frac.specs.Frac.{Frac, Same, fracs}
 use Rattle.rb_frac.specs.Pairs.{dot}
-use Rattle.rb_frac.specs.Tables.{Table, Tables, Vectors, identity, transpose, table_product, row as row_in}
-use Rattle.rb_frac.specs.Spatial.{Spatial, Force, Spatials, Forces}
+use Rattle.rb_frac.specs.Tables.{Table, Tables, Vectors, identity, table_product, row as row_in}
+use Rattle.rb_frac.specs.Spatial.{Force, Spatials}
 use Rattle.rb_frac.proofs.Ring.{expr}
-use Rattle.rb_frac.proofs.Variables.{vector, rows, of_vector, of_rows, vectors, tables}
+use Rattle.rb_frac.proofs.Variables.{rows, of_rows, tables}
 use Rattle.rb_num.specs.Interval.{Interval}
 use Rattle.rb_num.specs.Fraction.{LiesIn}
 use Rattle.rb_num.specs.Arith.{intervals, fractions, signs_of}
@@ -16,41 +15,31 @@ use Rattle.rb_num.specs.declared.interval.NumFault.{NumFault}
 use Rattle.rb_num.proofs.Same.{lies_in_same}
 use Rattle.rb_num.proofs.Relates.{Met}
 use Rattle.rb_num.proofs.Bridges.{to_intervals, ok_met, one_lies, expressions}
-use Rattle.rb_spatial.specs.Motions.{cross3}
 use Rattle.rb_spatial.specs.Carrying.{product, row_mul}
 use Rattle.rb_spatial.proofs.Keep.{cross3_met, product_met, transpose_rel}
 use Rattle.rb_flat.specs.Shape as Flat
 use Rattle.rb_flat.specs.Mechanism.{Mechanism}
-use Rattle.rb_flat.specs.Contact.{Constraints, HasRow, RowsFit, AreTurns, row_force}
-use Rattle.rb_flat.proofs.Equality.{same_fractions, vectors_sym}
-use Rattle.rb_work.specs.declared.names.NameKind.TheVariants as K
-use Rattle.rb_work.specs.declared.names.RowFault.{RowFault}
-use Rattle.rb_work.specs.Names.{one, named_as}
+use Rattle.rb_flat.specs.Contact.{Constraints, HasRow, RowsFit, AreTurns}
+use Rattle.rb_composite.proofs.Adding.{then_lies}
+use Rattle.rb_jacobian.specs.Rules.{row_vector}
+use Rattle.rb_jacobian.specs.Jacobian.{first_vector, second_vector}
+use Rattle.rb_jacobian.proofs.Turns.{tables_sym}
 use Rattle.rb_work.specs.View.{View, O_at, K_at}
 use Rattle.rb_work.specs.Zeros.{zero_force}
 use Rattle.rb_tree.specs.Columns.{parent_at}
 use Rattle.rb_tree.specs.Robot.{Tree, HasBody, AreBodies}
 use Rattle.rb_tree.specs.Shape.{shape_of}
 use Rattle.rb_constraint.specs.Constraints.{IsConstraintChoice}
-use Rattle.rb_constraint.specs.Rows.{no_turn, turn_by, O_rule, unit_force, force_by, forces_by, K_rule, first_force, second_force, AreRows}
-use Rattle.rb_constraint.specs.Encloses.{PlacesLie, TurnsLie, first_vector, second_vector, VectorsLie, RowsLie, EnclosesRows}
+use Rattle.rb_constraint.specs.Rows.{no_turn, turn_by, O_rule, force_by, forces_by, K_rule, first_force, second_force}
+use Rattle.rb_constraint.specs.Encloses.{PlacesLie, TurnsLie, VectorsLie}
 
--- ---- steps
-pub then_lies : {A B C D : Type 0} {r : A → B → Type 0} {s : C → D → Type 0} {m : A} {x : C} {n : Result B NumFault} {g : B → Result D NumFault}
-    → Met to_intervals r m n → ((b : B) → r m b → Met to_intervals s x (g b)) → Met to_intervals s x (n >>= g)
-then_lies {n = Ok b} h k = k b h.met
-then_lies {n = Err e} h k = record { met = tt }
-
-pub vectors_lie : {u v : V3 Frac} {w : V3 Interval} → Vectors Same u v → Vectors LiesIn u w → Vectors LiesIn v w
+-- ---- turns
+vectors_lie : {u v : V3 Frac} {w : V3 Interval} → Vectors Same u v → Vectors LiesIn u w → Vectors LiesIn v w
 vectors_lie s h = record { x = lies_in_same _ _ _ s.x h.x; y = lies_in_same _ _ _ s.y h.y; z = lies_in_same _ _ _ s.z h.z }
 
 tables_lie : {u v : Table Frac} {w : Table Interval} → Tables Same u v → Tables LiesIn u w → Tables LiesIn v w
 tables_lie s h = record { x = vectors_lie s.x h.x; y = vectors_lie s.y h.y; z = vectors_lie s.z h.z }
 
-tables_sym : {u v : Table Frac} → Tables Same u v → Tables Same v u
-tables_sym s = record { x = vectors_sym same_fractions s.x; y = vectors_sym same_fractions s.y; z = vectors_sym same_fractions s.z }
-
--- ---- turns
 identity_lies : Tables LiesIn (identity (signs_of fractions)) no_turn
 identity_lies =
     let o = to_intervals.zero in
@@ -79,24 +68,15 @@ module _ (tree : Tree) (kept : AreBodies tree.bodies) (m : Mechanism Frac) (turn
   turns_lie i h = turn_within (suc i) i (omega arith) h
 
 -- ---- vectors
-scaled_same : (d : V3 Frac) → Vectors Same d (vscale fracs fracs.one d)
-unfolding vscale
-scaled_same d = vectors (of_vector d []) (vector 0) (vscale expr expr.one (vector 0)) (refl, refl, refl)
-
-moment_same : (q d : V3 Frac) → Vectors Same (cross3 fractions q d) (vcross fracs q (vscale fracs fracs.one d))
-unfolding cross3 dot vcross vscale
-moment_same q d = vectors (of_vector q (of_vector d [])) (cross3 expressions (vector 0) (vector 3)) (vcross expr (vector 0) (vscale expr expr.one (vector 3))) (refl, refl, refl)
-
-unit_lies : (turns : Bool) {d q : V3 Frac} {v p : V3 Interval} → Vectors LiesIn d v → Vectors LiesIn q p
-    → Met to_intervals (Spatials LiesIn) (row_force fracs turns d q fracs.one) (unit_force turns v p)
-unfolding row_force unit_force
-unit_lies true {d = d} hd hq =
+vector_met : (turns : Bool) {d q : V3 Frac} {v p : V3 Interval} → Vectors LiesIn d v → Vectors LiesIn q p
+    → Met to_intervals (Spatials LiesIn) (row_vector fractions turns d q) (row_vector intervals turns v p)
+unfolding row_vector
+vector_met true hd hq =
     let o = to_intervals.zero in
-    record { met = record { lin = record { x = o; y = o; z = o }; ang = vectors_lie (scaled_same d) hd } }
-unit_lies false {d = d} {q = q} hd hq =
-    then_lies (cross3_met to_intervals hq hd) (λ n hn. record { met = record { lin = vectors_lie (scaled_same d) hd; ang = vectors_lie (moment_same q d) hn } })
+    record { met = record { lin = record { x = o; y = o; z = o }; ang = hd } }
+vector_met false hd hq = then_lies (cross3_met to_intervals hq hd) (λ n hn. record { met = record { lin = hd; ang = hn } })
 
-row_lies : (i : ℕ) {t : Table Frac} {v : Table Interval} → Tables LiesIn t v → Vectors LiesIn (row_in t i) (row_in v i)
+pub row_lies : (i : ℕ) {t : Table Frac} {v : Table Interval} → Tables LiesIn t v → Vectors LiesIn (row_in t i) (row_in v i)
 row_lies i {t = t} {v = v} h = first (i == 0) (i == 1)
   where
     first : (b c : Bool) → Vectors LiesIn (if b then t.x else (if c then t.y else t.z)) (if b then v.x else (if c then v.y else v.z))
@@ -104,11 +84,11 @@ row_lies i {t = t} {v = v} h = first (i == 0) (i == 1)
     first false true = h.y
     first false false = h.z
 
+pub listed : (list : Constraints Interval) (k : Constraints Frac) → IsConstraintChoice list k → (r : ℕ) → HasRow k r → HasRow list r
+listed list k chosen r has = let from = has.from in let to = has.to in let e = chosen.rows in record { from = from; to = omega arith }
+
 module _ (tree : Tree) (list : Constraints Interval) (k : Constraints Frac) (turn : ℕ → Table Frac) (w : View) (fit : RowsFit (shape_of tree) list)
     (chosen : IsConstraintChoice list k) (turns : TurnsLie tree turn w) (each : (r : ℕ) → HasRow list r → K_rule list r w ≡ Ok (K_at w r)) where
-  listed : (r : ℕ) → HasRow k r → HasRow list r
-  listed r has = let from = has.from in let to = has.to in let e = chosen.rows in record { from = from; to = omega arith }
-
   both_lie : (r : ℕ) → HasRow list r → Spatials LiesIn (first_vector k turn r) (first_force w r) × Spatials LiesIn (second_vector k turn r) (second_force w r)
   unfolding K_rule forces_by force_by
   both_lie r has =
@@ -119,19 +99,13 @@ module _ (tree : Tree) (list : Constraints Interval) (k : Constraints Frac) (tur
       let numbers = chosen.numbers r has in
       let e = chosen.row r has in
       let axis = (list.row r).axis in
-      let first : Spatials LiesIn (row_force fracs (list.row r).turns (row_in (turn (list.row r).first) axis) (k.numbers r).first_point fracs.one) f.0 =
-      ok_met f.1 (unit_lies (list.row r).turns (row_lies axis (turns (list.row r).first (fit r has).first)) numbers.first_point) in
-      let second : Spatials LiesIn (row_force fracs (list.row r).turns (row_in (turn (list.row r).second) axis) (k.numbers r).second_point fracs.one) g.0 =
-      ok_met g.1 (unit_lies (list.row r).turns (row_lies axis (turns (list.row r).second (fit r has).second)) numbers.second_point) in
-      (subst (λ (xs : List (Force Interval)). Spatials LiesIn (first_vector k turn r) (slice_index_or xs 0 zero_force)) pair (rw e first),
-      subst (λ (xs : List (Force Interval)). Spatials LiesIn (second_vector k turn r) (slice_index_or xs 1 zero_force)) pair (rw e second))
+      let first : Spatials LiesIn (row_vector fractions (list.row r).turns (row_in (turn (list.row r).first) axis) (k.numbers r).first_point) f.0 =
+      ok_met f.1 (vector_met (list.row r).turns (row_lies axis (turns (list.row r).first (fit r has).first)) numbers.first_point) in
+      let second : Spatials LiesIn (row_vector fractions (list.row r).turns (row_in (turn (list.row r).second) axis) (k.numbers r).second_point) g.0 =
+      ok_met g.1 (vector_met (list.row r).turns (row_lies axis (turns (list.row r).second (fit r has).second)) numbers.second_point) in (
+        subst (λ (xs : List (Force Interval)). Spatials LiesIn (first_vector k turn r) (slice_index_or xs 0 zero_force)) pair (rw e first),
+        subst (λ (xs : List (Force Interval)). Spatials LiesIn (second_vector k turn r) (slice_index_or xs 1 zero_force)) pair (rw e second),
+      )
 
   pub vectors_lie_in : VectorsLie k turn w
-  vectors_lie_in = record { first = λ r has. (both_lie r (listed r has)).0; second = λ r has. (both_lie r (listed r has)).1 }
-
-pub rows_enclose : (tree : Tree) (list : Constraints Interval) (w : View) → AreBodies tree.bodies → RowsFit (shape_of tree) list → AreRows tree list w → EnclosesRows tree list w
-rows_enclose tree list w kept fit are = record {
-  at = λ m k turn places chosen turns.
-      let lie = turns_lie tree kept m turn w turns places are.at_world are.each_O in
-      record { turns = lie; vectors = vectors_lie_in tree list k turn w fit chosen lie are.each_K };
-}
+  vectors_lie_in = record { first = λ r has. (both_lie r (listed list k chosen r has)).0; second = λ r has. (both_lie r (listed list k chosen r has)).1 }

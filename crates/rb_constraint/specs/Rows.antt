@@ -1,6 +1,6 @@
 -- The rows of constraints over a work: the turn from each body to the world, the forces that each row puts on its two bodies, and the table of rows, by
 -- row and column. Featherstone, Rigid Body Dynamics Algorithms, chapter 8.
-use Rattle.std.specs.Prelude.{◌≡◌, ℕ, zero, suc, ◌+◌, ◌-◌, ◌≤◌, ◌==◌, ◌||◌, Bool, if◌then◌else◌, List, [], ◌∷◌, ◌++◌, length, map, replicate, flat_map, slice_index_or, slice_set, Result, Ok, Err}
+use Rattle.std.specs.Prelude.{◌≡◌, ℕ, zero, suc, ◌+◌, ◌-◌, ◌≤◌, ◌==◌, ◌||◌, Bool, if◌then◌else◌, List, [], ◌∷◌, ◌++◌, length, map, replicate, flat_map, slice_index_or, slice_set, Result, Ok}
 use Rattle.std.specs.List.{list_any}
 use Rattle.std.specs.Option.{option_map_or}
 use Rattle.rb_num.specs.Interval.{Interval, zero_interval, one_interval}
@@ -9,17 +9,18 @@ use Rattle.rb_num.specs.Refusing.{iv_add, iv_sub}
 use Rattle.rb_num.specs.Arith.{intervals, signs_of}
 use Rattle.rb_num.specs.declared.interval.NumFault.{NumFault}
 use Rattle.rb_frac.specs.Ops.{V3}
-use Rattle.rb_frac.specs.Tables.{Table, identity, transpose, nothing, row as row_in}
+use Rattle.rb_frac.specs.Tables.{Table, identity, transpose, row as row_in}
 use Rattle.rb_frac.specs.Spatial.{Force}
 use Rattle.rb_result.specs.Steps.{◌>>=◌}
 use Rattle.rb_sweep.specs.Sweep.{sweep, upward}
 use Rattle.rb_sweep.specs.Naming.{IsRefusedFirst}
-use Rattle.rb_spatial.specs.Motions.{cross3, apply_dual}
+use Rattle.rb_spatial.specs.Motions.{apply_dual}
 use Rattle.rb_spatial.specs.Carrying.{product}
 use Rattle.rb_flat.specs.Contact as Flat
 use Rattle.rb_flat.specs.Contact.{Constraints, HasRow}
 use Rattle.rb_flat.specs.Dynamics.{follows}
 use Rattle.rb_joint.specs.Columns.{joint_power}
+use Rattle.rb_jacobian.specs.Rules.{row_vector}
 use Rattle.rb_work.specs.declared.names.NameKind.TheVariants as K
 use Rattle.rb_work.specs.declared.names.RowFault.{RowFault}
 use Rattle.rb_work.specs.Names.{one, named_as}
@@ -50,16 +51,10 @@ unfoldable pub O_rule : Tree → ℕ → View → Result (Table Interval) RowFau
 O_rule tree i w = named_as (one K.O i) (turn_by tree.bodies i w)
 
 -- ---- forces
--- a force of one along the direction d at a point, or a moment of one about it
-unfoldable pub unit_force : Bool → V3 Interval → V3 Interval → Result (Force Interval) NumFault
-unit_force turns d point =
-    if turns
-    then Ok (record { lin = nothing (signs_of intervals); ang = d })
-    else (cross3 intervals point d >>= λ moment. Ok (record { lin = d; ang = moment }))
-
--- of a row on body i, in which its point is this: the axis of the world as the body sees it is a row of the body's turn
+-- of a row on body i, in which its point is this: a force of one along the axis of the world at the point, or a moment of one about it. The axis as the
+-- body sees it is a row of the body's turn.
 unfoldable pub force_by : Flat.Row → View → ℕ → V3 Interval → Result (Force Interval) NumFault
-force_by line w i point = unit_force line.turns (row_in (O_at w i) line.axis) point
+force_by line w i point = row_vector intervals line.turns (row_in (O_at w i) line.axis) point
 
 -- on the first body, and on the second
 unfoldable pub forces_by : Constraints Interval → ℕ → View → Result (List (Force Interval)) NumFault

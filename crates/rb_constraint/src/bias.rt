@@ -9,6 +9,7 @@ ghost use Rattle.rb_tree.specs.Shape.{shape_of};
 ghost use Rattle.rb_tree.specs.Places.{IsFor};
 ghost use Rattle.rb_constraint.specs.Constraints.{constraints_of, flat_row};
 ghost use Rattle.rb_constraint.specs.Bias.{along as along_of, bias_by, difference_by, AreBias, IsBiasRefused};
+ghost use Rattle.rb_constraint.specs.Encloses.{EnclosesBias};
 ghost use Rattle.rb_constraint.specs.Steps.{bias_step, bias_of};
 
 use crate::constraints::{Constraints, Row};
@@ -122,6 +123,9 @@ pub fn fill_bias(robot: &Robot, cons: &Constraints, work: &mut Work) -> Result<(
 
     // there are values with what the work held, in which each name before one is what its rule gives, and the rule of that one refuses so
     ensures refused { IfErr result (IsBiasRefused robot.now (constraints_of cons.now) work.old) }
+
+    // the bias of each row lies in the values, for all motions, turns and row vectors that the work encloses
+    ensures encloses { OnOk result (EnclosesBias robot.now (constraints_of cons.now) work.new) }
 
     // all else is as it was
     ensures others { work.new ≡ record work.old { g = work.new.g } }

@@ -3,7 +3,9 @@
 ghost use Rattle.std.specs.Prelude.{◌≡◌, ◌≤◌, ◌<◌, ◌+◌, ◌-◌, OnOk, IfErr, length};
 ghost use Rattle.rb_num.specs.Interval.{zero_interval};
 ghost use Rattle.rb_sweep.specs.Sweep.{Answers, sweep, upward};
+ghost use Rattle.rb_num.specs.Arith.{intervals};
 ghost use Rattle.rb_frac.specs.Tables.{row as row_in};
+ghost use Rattle.rb_jacobian.specs.Rules.{row_vector};
 ghost use Rattle.rb_flat.specs.Contact.{HasRow, RowsFit};
 ghost use Rattle.rb_flat.specs.Dynamics.{follows};
 ghost use Rattle.rb_work.specs.View.{O_at};
@@ -14,7 +16,7 @@ ghost use Rattle.rb_tree.specs.Shape.{master_of, shape_of};
 ghost use Rattle.rb_tree.specs.Robot.{HasBody};
 ghost use Rattle.rb_tree.specs.Places.{IsFor};
 ghost use Rattle.rb_constraint.specs.Constraints.{constraints_of, flat_row};
-ghost use Rattle.rb_constraint.specs.Rows.{no_turn, turn_by, unit_force as unit_force_of, force_by, forces_by, is_led as is_led_of, multiplier_at, add_entry, add_joint, column_by, AreRows, IsRowRefused};
+ghost use Rattle.rb_constraint.specs.Rows.{no_turn, turn_by, force_by, forces_by, is_led as is_led_of, multiplier_at, add_entry, add_joint, column_by, AreRows, IsRowRefused};
 ghost use Rattle.rb_constraint.specs.Encloses.{EnclosesRows};
 ghost use Rattle.rb_constraint.specs.Steps.{turn_step, turns_of, entry_step, put_of, entries_step, row_step, lines_of, fills_of};
 
@@ -80,9 +82,9 @@ fn sweep_turns(robot: &Robot, work: &mut Work) -> Result<(), RowFault>
 // ---- forces
 
 // A force of one along a direction at a point, or a moment of one about it.
-#[tactic(auto, unfolding(crate::specs::Rows::unit_force))]
+#[tactic(auto, unfolding(rb_jacobian::specs::Rules::row_vector))]
 fn unit_force(turns: bool, direction: Vec3, point: &Vec3) -> Result<Force, NumFault>
-    ensures exact { result ≡ unit_force_of turns direction point.now }
+    ensures exact { result ≡ row_vector intervals turns direction point.now }
     ensures size { IfErr result (λ e. e ≡ NumFault.Size) }
 {
     if turns {
@@ -356,7 +358,7 @@ pub fn fill_rows(robot: &Robot, cons: &Constraints, work: &mut Work) -> Result<(
     // there are values with the places of the work, in which each name before one is what its rule gives, and the rule of that one refuses so
     ensures refused { IfErr result (IsRowRefused robot.now (constraints_of cons.now) work.old) }
 
-    // the turns and the row vectors of each mechanism with these places lie in the values
+    // the turns, the row vectors and the table of rows of each choice with these places lie in the values
     ensures encloses { OnOk result (EnclosesRows robot.now (constraints_of cons.now) work.new) }
 
     // all else is as it was

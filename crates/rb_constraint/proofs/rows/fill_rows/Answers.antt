@@ -3,7 +3,7 @@ use Rattle.rb_sweep.proofs.Told.{told_ok, told_err}
 use Rattle.rb_constraint.specs.Constraints.{constraints_of}
 use Rattle.rb_constraint.specs.Rows.{AreRows, IsRowRefused}
 use Rattle.rb_constraint.proofs.RowPass.{rows_found, rows_refused}
-use Rattle.rb_constraint.proofs.RowsLie.{rows_enclose}
+use Rattle.rb_constraint.proofs.RowsEnclose.{rows_enclose}
 use Rattle.rb_constraint.proofs.rows.fill_rows.Goals as goal
 
 pub returns-clause-values : goal.returns-clause-values
