@@ -1,1 +1,16 @@
 mod Going
+mod Cells
+mod Alone
+mod Lines
+mod Sizes
+mod Reducing
+mod AllRows
+mod Entries
+mod Elimination
+mod Numbers
+mod Forcing
+mod Meeting
+mod Enclosing
+mod Answered
+mod Borders
+mod OneForce

@@ -97,6 +97,11 @@ eliminate_step R r pairs = pivot_as (one K.C r) (cell_at R pairs r r) >>= λ p. 
 abbrev pub eliminated_of : ℕ → List Interval → Result (List Interval) RowFault
 eliminated_of R pairs = sweep (eliminate_step R) (upward 1 (R + 1)) pairs
 
+-- Y, Z and the pairs
+unfoldable pub couple_of : List ℕ → ℕ → List Interval → List Interval → List Interval → List Interval × List Interval × List Interval → Result (List Interval × List Interval × List Interval) RowFault
+couple_of up R table J mus s =
+    rows_of up R table J (s.0, s.1) >>= λ t. coupled_of (length up) R mus t.0 t.1 s.2 >>= λ G. eliminated_of R G >>= λ pairs. Ok (t.0, t.1, pairs)
+
 -- ---- forces
 -- start, and the sum of the products
 unfoldable pub total_of : Interval → ℕ → (ℕ → Interval) → (ℕ → Interval) → Result Interval NumFault
@@ -137,6 +142,10 @@ force_step R pairs e r lam = named_as (one K.lam r) (part_of R pairs e lam r) >>
 
 abbrev pub forces_of : ℕ → List Interval → List Interval → List Interval → Result (List Interval) RowFault
 forces_of R pairs e lam = sweep (force_step R pairs e) (downward 1 (R + 1)) lam
+
+-- the right side and the forces
+unfoldable pub row_forces_of : ℕ → List Interval → List Interval × List Interval → Result (List Interval × List Interval) RowFault
+row_forces_of R pairs s = right_reduced_of R pairs s.0 >>= λ r. right_divided_of R pairs r >>= λ e. forces_of R pairs e s.1 >>= λ lam. Ok (e, lam)
 
 -- what the forces add to the number of c
 unfoldable pub add_step : ℕ → ℕ → List Interval → List Interval → ℕ → List Interval → Result (List Interval) RowFault

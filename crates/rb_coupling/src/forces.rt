@@ -8,7 +8,7 @@ ghost use Rattle.rb_factor.specs.Sweeps.{number_at};
 ghost use Rattle.rb_coupling.specs.Couple.{HoldsRowDivisors};
 ghost use Rattle.rb_coupling.specs.Forces.{HoldsRowSides, HoldsRowForces, HoldsAddedForces, RefusesRowSides, RefusesRowForces, RefusesAddedForces};
 ghost use Rattle.rb_coupling.specs.Laws.{EnclosesRowSides, EnclosesRowForces, EnclosesAddedForces};
-ghost use Rattle.rb_coupling.specs.Sweeps.{cell_at, total_of, side_step, sides_of, lessen_step, lessen_row_step, right_reduced_of, right_divide_step, right_divided_of, part_step, part_of, force_step, forces_of, add_step, added_of};
+ghost use Rattle.rb_coupling.specs.Sweeps.{cell_at, total_of, side_step, sides_of, lessen_step, lessen_row_step, right_reduced_of, right_divide_step, right_divided_of, part_step, part_of, force_step, forces_of, row_forces_of, add_step, added_of};
 
 use crate::sums::{sum_of_column, sum_of_row};
 use rb_num::{Iv, NumFault};
@@ -157,6 +157,17 @@ fn find_forces(work: &mut Work) -> Result<(), RowFault>
     Ok(())
 }
 
+// The three steps in turn.
+#[tactic(auto, unfolding(crate::specs::Sweeps::row_forces_of))]
+fn find_all(work: &mut Work) -> Result<(), RowFault>
+    ensures exact { Answers result (row_forces_of work.old.rows work.old.pairs (work.old.e, work.old.lam)) (work.new.e, work.new.lam) }
+    ensures others { work.new ≡ record work.old { e = work.new.e; lam = work.new.lam } }
+{
+    take_rows(work)?;
+    divide_rows(work)?;
+    find_forces(work)
+}
+
 // The number of column c, and what the forces add to it.
 #[tactic(auto, unfolding(crate::specs::Sweeps::total_of))]
 fn column_total(c: u32, work: &Work) -> Result<Iv, NumFault>
@@ -218,9 +229,7 @@ pub fn row_forces(work: &mut Work) -> Result<(), RowFault>
     ensures others { work.new ≡ record work.old { e = work.new.e; lam = work.new.lam } }
 {
     let _sizes = work.rows();
-    take_rows(work)?;
-    divide_rows(work)?;
-    find_forces(work)
+    find_all(work)
 }
 
 /// Adds to `w[c]` the sum over the rows of the products of `Y[r.c]` and `lam[r]`, from the first column on. A sum that is too large is refused as `Size`

@@ -2,12 +2,12 @@
 //! 8), in intervals.
 #![tactic(auto)]
 
-mod couple;
+mod coupling;
 mod eliminate;
 mod forces;
 pub mod laws;
 mod rows;
 mod sums;
 
-pub use couple::couple;
+pub use coupling::couple;
 pub use forces::{add_row_forces, row_forces, row_sides};

@@ -8,7 +8,7 @@ ghost use Rattle.rb_factor.specs.Factor.{HoldsDivisors};
 ghost use Rattle.rb_coupling.specs.Steps.{of_row};
 ghost use Rattle.rb_coupling.specs.Couple.{HoldsCoupling, RefusesCouple};
 ghost use Rattle.rb_coupling.specs.Laws.{EnclosesCoupling};
-ghost use Rattle.rb_coupling.specs.Sweeps.{entry_of, couple_step, couple_row_step, coupled_of};
+ghost use Rattle.rb_coupling.specs.Sweeps.{entry_of, couple_step, couple_row_step, coupled_of, couple_of};
 
 use crate::eliminate::eliminate_rows;
 use crate::rows::reduce_rows;
@@ -78,6 +78,18 @@ fn couple_rows(compliances: &[Iv], work: &mut Work) -> Result<(), RowFault>
     Ok(())
 }
 
+// The three steps in turn.
+#[tactic(auto, unfolding(crate::specs::Sweeps::couple_of))]
+fn couple_all(compliances: &[Iv], work: &mut Work) -> Result<(), RowFault>
+    requires compliances { length compliances.now ≡ work.old.rows }
+    ensures exact { Answers result (couple_of work.old.up work.old.rows work.old.packed work.old.J compliances.now (work.old.Y, work.old.Z, work.old.pairs)) (work.new.Y, work.new.Z, work.new.pairs) }
+    ensures others { work.new ≡ record work.old { Y = work.new.Y; Z = work.new.Z; pairs = work.new.pairs } }
+{
+    reduce_rows(work)?;
+    couple_rows(compliances, work)?;
+    eliminate_rows(work)
+}
+
 /// The coupling of the rows `J` over the factors `L` and `D`, and its factors. For each row `r` in turn `Y[r]` is the first step of the solution on `J[r]`,
 /// and `Z[r]` its quotients by `D`. `G[q.r]`, for each `q` and then each `r` up to `q`, is the sum of the products of `Y[r]` and `Z[q]`, with the compliance
 /// of the row added where `r` is `q`. Then the rows are eliminated from the first on: `C[r]` is the present `G[r.r]`, each later row `q` has `l[q.r]`, its
@@ -95,7 +107,5 @@ pub fn couple(work: &mut Work, compliances: &[Iv]) -> Result<(), RowFault>
     ensures others { work.new ≡ record work.old { Y = work.new.Y; Z = work.new.Z; pairs = work.new.pairs } }
 {
     let _sizes = work.rows();
-    reduce_rows(work)?;
-    couple_rows(compliances, work)?;
-    eliminate_rows(work)
+    couple_all(compliances, work)
 }
