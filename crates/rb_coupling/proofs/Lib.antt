@@ -14,3 +14,4 @@ mod Enclosing
 mod Answered
 mod Borders
 mod OneForce
+mod OneCoupling
