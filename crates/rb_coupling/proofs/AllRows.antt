@@ -1,13 +1,12 @@
 -- What the rows leave in turn, and what is refused first.
-use Rattle.std.proofs.Common.{◌≡◌, ◌≢◌, ℕ, zero, suc, ◌+◌, ◌<◌, ◌≤◌, List, length, Result, Ok, Err, inl, inr, refl, ap, sym, ◌∙◌, subst, arith}
+use Rattle.std.proofs.Common.{◌≡◌, ◌≢◌, ℕ, zero, suc, ◌+◌, ◌<◌, ◌≤◌, List, length, Result, Ok, Err, inl, inr, refl, sym, ◌∙◌, subst, arith}
 use Rattle.rb_result.specs.Steps.{◌>>=◌}
 use Rattle.rb_result.proofs.Results.{same_ok, then-ok, then-err}
 use Rattle.rb_num.specs.Interval.{Interval, zero_interval}
-use Rattle.rb_sweep.specs.Sweep.{sweep, upward}
+use Rattle.rb_sweep.specs.Sweep.{upward}
 use Rattle.rb_sweep.proofs.SweepLaws.{in_upward}
 use Rattle.rb_work.specs.declared.names.RowFault.{RowFault}
 use Rattle.rb_work.specs.Path.{above, Ascends}
-use Rattle.rb_elimination.specs.Paths.{IsColumn}
 use Rattle.rb_elimination.specs.Solving.{IsReduced, IsDivided}
 use Rattle.rb_factor.specs.Steps.{interval_steps, AreDivisors}
 use Rattle.rb_factor.specs.Sweeps.{entry_at}
@@ -17,9 +16,9 @@ use Rattle.rb_coupling.specs.Steps.{interval_row_steps}
 use Rattle.rb_coupling.specs.Couple.{IsRowRefused, by_reduce, by_divide}
 use Rattle.rb_coupling.specs.Sweeps.{cell_at, copied_of, reduced_of, divided_of, row_step, rows_of}
 use Rattle.rb_coupling.proofs.Cells.{Fits}
-use Rattle.rb_coupling.proofs.Alone.{pick, pick_is, Fine, Done, Stopped, Apart, all_done, stopped}
+use Rattle.rb_coupling.proofs.Alone.{pick, pick_is, Fine, Apart, all_done, stopped}
 use Rattle.rb_coupling.proofs.Lines.{keeps_over}
-use Rattle.rb_coupling.proofs.Reducing.{reduced_as, reduce_refused_as, divided_as, Beside, copied_beside, copy_is, copy_answers, reduced_beside, row_reduced, row_reduction_refused, divided_beside, row_divided, row_division_refused}
+use Rattle.rb_coupling.proofs.Reducing.{reduced_as, reduce_refused_as, divided_as, copied_beside, copy_is, copy_answers, reduced_beside, row_reduced, row_reduction_refused, divided_beside, row_divided, row_division_refused}
 
 module _ (up : List ℕ) (ascends : Ascends up) (table J : List Interval) (R : ℕ) where
   abbrev Two : Type 0
@@ -106,13 +105,15 @@ module _ (up : List ℕ) (ascends : Ascends up) (table J : List Interval) (R : �
   row_found r s t l h f =
       let p = stepped r s t h in
       let a = copied_beside up R r l J s.0 p.copy p.copied in
-      let b = row_reduced up R r l ascends table p.copy t.0 p.reduced (sym a.long ∙ f.Y) in
-      (b.0, record {
-        reduced =
-            reduced_as (length up) (above up) factors (cell p.copy r) (cell J r) b.0 (cell t.0 r) (cell t.0 r)
-            (λ c i. copy_is up R r l J s.0 p.copy p.copied f.Y c i) (λ c i. refl) b.1;
-        divided = row_divided up R r l ascends table t.0 s.1 t.1 p.divided f.Z;
-      })
+      let b = row_reduced up R r l ascends table p.copy t.0 p.reduced (sym a.long ∙ f.Y) in (
+        b.0,
+        record {
+          reduced =
+              reduced_as (length up) (above up) factors (cell p.copy r) (cell J r) b.0 (cell t.0 r) (cell t.0 r)
+              (λ c i. copy_is up R r l J s.0 p.copy p.copied f.Y c i) (λ c i. refl) b.1;
+          divided = row_divided up R r l ascends table t.0 s.1 t.1 p.divided f.Z;
+        },
+      )
 
   row_refused : (r : ℕ) (s : Two) (e : RowFault) → r ≤ R → AreDivisors (length up) pivots → row_step up table J r s ≡ Err e → Room s
       → IsRowRefused (length up) (above up) factors pivots (cell J r) r e
@@ -161,24 +162,28 @@ module _ (up : List ℕ) (ascends : Ascends up) (table J : List Interval) (R : �
   row_told s t h f r i =
       let to : r ≤ R = i.to in
       let d = all_done (row_step up table J) Alike alike_none alike_both 1 (R + 1) rows_apart s t h r i.from (omega arith) in
-      let k = row_found r d.fine.before d.fine.behind to d.fine.does (room_stays r s d.fine.before d.fine.same f) in
-      (k.0, record {
-        reduced =
-            reduced_as (length up) (above up) factors (cell J r) (cell J r) k.0 (cell d.fine.behind.0 r) (cell t.0 r) (λ c j. refl) (λ c j. sym (d.stays.Y c j.to)) k.1.reduced;
-        divided =
-            divided_as (length up) (above up) pivots (cell d.fine.behind.0 r) (cell t.0 r) (cell d.fine.behind.1 r) (cell t.1 r)
-            (λ c j. sym (d.stays.Y c j.to)) (λ c j. d.stays.Z c j.to) k.1.divided;
-      })
+      let k = row_found r d.fine.before d.fine.behind to d.fine.does (room_stays r s d.fine.before d.fine.same f) in (
+        k.0,
+        record {
+          reduced =
+              reduced_as (length up) (above up) factors (cell J r) (cell J r) k.0 (cell d.fine.behind.0 r) (cell t.0 r) (λ c j. refl) (λ c j. sym (d.stays.Y c j.to)) k.1.reduced;
+          divided =
+              divided_as (length up) (above up) pivots (cell d.fine.behind.0 r) (cell t.0 r) (cell d.fine.behind.1 r) (cell t.1 r)
+              (λ c j. sym (d.stays.Y c j.to)) (λ c j. d.stays.Z c j.to) k.1.divided;
+        },
+      )
 
   pub rows_done : (s t : Two) → rows_of up R table J s ≡ Ok t → Room s
       → (left : ℕ → ℕ → ℕ → Interval) × AreRowsReduced interval_row_steps (length up) (above up) R factors pivots (cell J) left (cell t.0) (cell t.1)
   rows_done s t h f =
       let P : ℕ → (ℕ → ℕ → Interval) → Type 0 = λ r left. Found r left (cell t.0 r) (cell t.1 r) in
-      let each : (r : ℕ) → IsRow R r → (left : ℕ → ℕ → Interval) × P r left = row_told s t h f in
-      (pick no_left P R each, record {
-        reduced = λ r i. (pick_is no_left P R each r i).reduced;
-        divided = λ r i. (pick_is no_left P R each r i).divided;
-      })
+      let each : (r : ℕ) → IsRow R r → (left : ℕ → ℕ → Interval) × P r left = row_told s t h f in (
+        pick no_left P R each,
+        record {
+          reduced = λ r i. (pick_is no_left P R each r i).reduced;
+          divided = λ r i. (pick_is no_left P R each r i).divided;
+        },
+      )
 
   pub rows_room : (s t : Two) → rows_of up R table J s ≡ Ok t → Room s → Room t
   rows_room s t h f =

@@ -1,9 +1,8 @@
 -- What the answers of the sweeps over a work say of it.
-use Rattle.std.proofs.Common.{◌≡◌, ℕ, suc, ◌+◌, List, length, Result, Ok, Err, OnOk, refl, ap, sym, ◌∙◌, subst, inl, inr, arith}
+use Rattle.std.proofs.Common.{◌≡◌, List, Result, Ok, Err, OnOk, sym, ◌∙◌, subst, inl, inr}
 use Rattle.rb_result.specs.Steps.{◌>>=◌}
 use Rattle.rb_result.proofs.Results.{same_ok, then-ok, then-err}
 use Rattle.rb_num.specs.Interval.{Interval}
-use Rattle.rb_frac.specs.Frac.{Frac}
 use Rattle.rb_sweep.specs.Sweep.{Answers}
 use Rattle.rb_sweep.proofs.Told.{told_ok}
 use Rattle.rb_work.specs.declared.names.RowFault.{RowFault}
@@ -11,12 +10,10 @@ use Rattle.rb_work.specs.Path.{above}
 use Rattle.rb_work.specs.View.{View, IsSized, columns_of, L_at, D_at, J_at, Y_at, Z_at, C_at, l_at, w_at, z_at, g_at, e_at, lam_at}
 use Rattle.rb_elimination.specs.Paths.{IsColumn}
 use Rattle.rb_elimination.specs.Paths as P
-use Rattle.rb_elimination.specs.Laws.{ArePivots}
 use Rattle.rb_factor.specs.Factor.{HoldsDivisors}
-use Rattle.rb_factor.specs.Sweeps.{entry_at, number_at}
+use Rattle.rb_factor.specs.Sweeps.{number_at}
 use Rattle.rb_factor.proofs.Paths.{regular}
 use Rattle.rb_factor.proofs.Relations.{fractions_lie, nonzero}
-use Rattle.rb_bordered.specs.Steps.{IsRow}
 use Rattle.rb_bordered.specs.Forces.{HaveRowFactors}
 use Rattle.rb_coupling.specs.Steps.{interval_row_steps, of_row}
 use Rattle.rb_coupling.specs.Couple.{HoldsRowDivisors, HoldsCoupling, RefusesCouple, by_row, by_entry, by_elimination}
@@ -24,11 +21,11 @@ use Rattle.rb_coupling.specs.Forces.{HoldsRowSides, HoldsRowForces, HoldsAddedFo
 use Rattle.rb_coupling.specs.Laws.{EnclosesCoupling, EnclosesRowSides, EnclosesRowForces, EnclosesAddedForces}
 use Rattle.rb_coupling.specs.Sweeps.{cell_at, rows_of, coupled_of, eliminated_of, couple_of, sides_of, right_reduced_of, right_divided_of, forces_of, row_forces_of, added_of}
 use Rattle.rb_coupling.proofs.Cells.{Fits}
-use Rattle.rb_coupling.proofs.AllRows.{Room, RowsStop, rows_done, rows_room, rows_refused}
-use Rattle.rb_coupling.proofs.Entries.{CoupleStop, coupled, coupled_long, coupling_refused}
-use Rattle.rb_coupling.proofs.Elimination.{EliminationStop, eliminated, elimination_refused}
+use Rattle.rb_coupling.proofs.AllRows.{Room, rows_done, rows_refused}
+use Rattle.rb_coupling.proofs.Entries.{coupled, coupled_long, coupling_refused}
+use Rattle.rb_coupling.proofs.Elimination.{eliminated, elimination_refused}
 use Rattle.rb_coupling.proofs.Forcing.{sides_told, sides_refused, added_told, added_refused, right_reduced, right_reduction_refused, right_divided, right_division_refused, forces_told, forces_refused}
-use Rattle.rb_coupling.proofs.Meeting.{FactorsMet, row_factors_met, right_met, sides_met, added_met}
+use Rattle.rb_coupling.proofs.Meeting.{row_factors_met, right_met, sides_met, added_met}
 use Rattle.rb_coupling.proofs.Enclosing.{rows_lie}
 
 abbrev pub Three : Type 0
@@ -88,7 +85,7 @@ module _ (w : View) (sized : IsSized w) where
     unfolding couple_of
     parts t h =
         let a = then-ok (rows_of w.up w.rows w.packed w.J (w.Y, w.Z))
-            (λ u. coupled_of (columns_of w) w.rows mus u.0 u.1 w.pairs >>= λ G. eliminated_of w.rows G >>= λ pairs. three u.0 u.1 pairs) t h in
+        (λ u. coupled_of (columns_of w) w.rows mus u.0 u.1 w.pairs >>= λ G. eliminated_of w.rows G >>= λ pairs. three u.0 u.1 pairs) t h in
         let b = then-ok (coupled_of (columns_of w) w.rows mus a.0.0 a.0.1 w.pairs) (λ G. eliminated_of w.rows G >>= λ pairs. three a.0.0 a.0.1 pairs) t a.2 in
         let c = then-ok (eliminated_of w.rows b.0) (λ pairs. three a.0.0 a.0.1 pairs) t b.2 in
         record { both = a.0; G = b.0; rows = a.1; entries = b.1; pairs = c.0; elimination = c.1; all = same_ok (a.0.0, a.0.1, c.0) t c.2 }

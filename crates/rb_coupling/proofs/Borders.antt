@@ -1,11 +1,10 @@
 -- Where no pivot contains zero, the bordered equations have one solution, within what is found.
-use Rattle.std.proofs.Common.{ℕ}
 use Rattle.rb_elimination.specs.Laws.{ArePivots}
 use Rattle.rb_factor.proofs.Relations.{fractions_lie, nonzero}
 use Rattle.rb_bordered.proofs.Exists.{bordered_exists}
 use Rattle.rb_bordered.proofs.Solves.{bordered_solves}
 use Rattle.rb_coupling.specs.Laws.{BorderedEncloses}
-use Rattle.rb_coupling.proofs.Meeting.{FactorsMet, row_factors_met, forces_found_met, found_with_met}
+use Rattle.rb_coupling.proofs.Meeting.{row_factors_met, forces_found_met, found_with_met}
 use Rattle.rb_coupling.proofs.Enclosing.{rows_lie}
 
 pub bordered_encloses : BorderedEncloses

@@ -1,6 +1,5 @@
 -- What the elimination of the rows leaves, and what is refused first.
-use Rattle.std.proofs.Common.{◌≡◌, ◌≢◌, ◌⊎◌, ℕ, zero, suc, ◌+◌, ◌*◌, ◌<◌, ◌≤◌, List, length, slice_set, Result, Ok, Err, inl, inr, refl, ap, sym, ◌∙◌, subst, arith}
-use Rattle.std.proofs.lemmas.Bool.{cases_lt}
+use Rattle.std.proofs.Common.{◌≡◌, ◌≢◌, ℕ, zero, suc, ◌+◌, ◌<◌, ◌≤◌, List, length, slice_set, Result, Ok, Err, inl, inr, refl, ap, sym, ◌∙◌, subst, arith}
 use Rattle.rb_result.specs.Steps.{◌>>=◌}
 use Rattle.rb_result.proofs.Results.{then-ok, then-err}
 use Rattle.rb_num.specs.declared.interval.NumFault.{NumFault}
@@ -8,23 +7,22 @@ use Rattle.rb_num.specs.declared.interval.NumFault.TheVariants as N
 use Rattle.rb_num.specs.Interval.{Interval, negative_of}
 use Rattle.rb_num.specs.Refusing.{iv_div}
 use Rattle.rb_num.specs.Quotient.{HasZero}
-use Rattle.rb_sweep.specs.Sweep.{sweep, upward}
+use Rattle.rb_sweep.specs.Sweep.{upward}
 use Rattle.rb_sweep.proofs.SweepLaws.{in_upward}
 use Rattle.rb_work.specs.declared.names.NameKind.TheVariants as K
 use Rattle.rb_work.specs.declared.names.RowFault.{RowFault}
-use Rattle.rb_work.specs.declared.names.RowFault.TheVariants.{Size, Pivot}
-use Rattle.rb_work.specs.Names.{one, two, named_as, pivot_as}
+use Rattle.rb_work.specs.declared.names.RowFault.TheVariants.{Size}
+use Rattle.rb_work.specs.Names.{one, two, pivot_as}
 use Rattle.rb_factor.specs.Steps.{lessened, AreDivisors}
 use Rattle.rb_factor.proofs.Refusals.{made, not_made, product_size, quotient_size, pivot_told, pivot_refused}
 use Rattle.rb_factor.proofs.Traces.{Ascent, rises, steady, ascent_holds}
 use Rattle.rb_factor.proofs.Traces as T
-use Rattle.rb_bordered.specs.Steps.{IsRow}
 use Rattle.rb_bordered.specs.Elimination.{AreEliminated}
 use Rattle.rb_coupling.specs.Steps.{interval_row_steps}
 use Rattle.rb_coupling.specs.Couple.{StandsBefore, EliminatesRow, AreEliminatedUntil, IsEliminationRefused, by_pivot, by_quotient, by_update}
 use Rattle.rb_coupling.specs.Sweeps.{place_of, cell_at, quotient_step, quotients_of, update_step, update_row_step, updates_of, eliminate_step, eliminated_of}
 use Rattle.rb_coupling.proofs.Cells.{Fits, cell_same, cell_other, long_put}
-use Rattle.rb_coupling.proofs.Alone.{Fine, Done, Stopped, Apart, all_done, stopped}
+use Rattle.rb_coupling.proofs.Alone.{Apart, all_done, stopped}
 use Rattle.rb_coupling.proofs.Lines.{keeps_over}
 
 module _ (R r : ℕ) (from : 1 ≤ r) (to : r ≤ R) where
@@ -104,10 +102,11 @@ module _ (R r : ℕ) (from : 1 ≤ r) (to : r ≤ R) where
         let ok : Interval → Result Interval NumFault = λ x. Ok x in
         let d = all_done (quotient_step R r p) ColumnAlike column_none column_both (r + 1) (R + 1) column_apart s t h q (omega arith) (omega arith) in
         let k = quotient_told q d.fine.before d.fine.behind d.fine.does in
-        let there : Fits R R d.fine.before = sym d.fine.same.long ∙ fit in
-        (ap (λ x. iv_div x p) d.fine.same.own ∙ k.1
-        ∙ ap ok (sym (put_quotient_is q d.fine.before k.0 high there) ∙ ap (λ w. cell_at R w q r) k.2 ∙ d.stays.own),
-        sym d.stays.kept ∙ ap (λ w. cell_at R w q 0) (sym k.2) ∙ put_kept_is q d.fine.before k.0 high there ∙ sym d.fine.same.own)
+        let there : Fits R R d.fine.before = sym d.fine.same.long ∙ fit in (
+          ap (λ x. iv_div x p) d.fine.same.own ∙ k.1
+              ∙ ap ok (sym (put_quotient_is q d.fine.before k.0 high there) ∙ ap (λ w. cell_at R w q r) k.2 ∙ d.stays.own),
+          sym d.stays.kept ∙ ap (λ w. cell_at R w q 0) (sym k.2) ∙ put_kept_is q d.fine.before k.0 high there ∙ sym d.fine.same.own,
+        )
 
     pub quotients_done : (s t : List Interval) → quotients_of R r p s ≡ Ok t → Fits R R s → Divided s t
     quotients_done s t h fit = record {
@@ -468,13 +467,16 @@ module _ (R : ℕ) where
       → (table : Table) × AreEliminated interval_row_steps R (cell_at R s) table (cell_at R t) (λ c. cell_at R t c c) × AreDivisors R (λ c. cell_at R t c c)
   eliminated s t h fit =
       let a : Ascent (eliminate_step R) R s t = rises (eliminate_step R) R s t h in
-      let u = eliminated_until R (omega arith) s t a fit in
-      (λ c. cell_at R (a.at c), record {
-        first = u.first;
-        pivots = λ r l. (u.each r l).pivot;
-        quotients = λ r q low high. (u.each r (omega arith)).quotients q low high;
-        updates = λ r q v low mid high. (u.each r (omega arith)).updates q v low mid high;
-      }, divisors_told (cell_at R s) (λ c. cell_at R (a.at c)) (cell_at R t) (λ c. cell_at R t c c) u)
+      let u = eliminated_until R (omega arith) s t a fit in (
+        λ c. cell_at R (a.at c),
+        record {
+          first = u.first;
+          pivots = λ r l. (u.each r l).pivot;
+          quotients = λ r q low high. (u.each r (omega arith)).quotients q low high;
+          updates = λ r q v low mid high. (u.each r (omega arith)).updates q v low mid high;
+        },
+        divisors_told (cell_at R s) (λ c. cell_at R (a.at c)) (cell_at R t) (λ c. cell_at R t c c) u,
+      )
 
   pub record EliminationStop (s : List Interval) (e : RowFault) : Type 0 where
     pub before : ℕ

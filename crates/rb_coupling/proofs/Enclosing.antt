@@ -1,5 +1,5 @@
 -- The steps and sums over intervals keep equality, and that fractions lie in intervals.
-use Rattle.std.proofs.Common.{◌≡◌, ℕ, zero, suc, ◌<◌, ◌≤◌, List, [], ◌∷◌, ◌++◌, Ok, refl, ap, sym, ◌∙◌, subst, arith}
+use Rattle.std.proofs.Common.{◌≡◌, ℕ, zero, suc, List, [], ◌∷◌, ◌++◌, Ok, refl, ap, sym, ◌∙◌, subst, arith}
 use mathlib.Core.Path.{ap₂}
 use Rattle.rb_frac.specs.Ops.{sum}
 use Rattle.rb_frac.specs.Frac as F

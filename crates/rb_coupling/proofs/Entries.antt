@@ -1,20 +1,18 @@
 -- What the entries of the coupling are, and which is refused first.
-use Rattle.std.proofs.Common.{◌≡◌, ◌≢◌, ◌⊎◌, ℕ, suc, ◌+◌, ◌*◌, ◌<◌, ◌≤◌, ◌==◌, if◌then◌else◌, List, length, slice_set, Bool, true, false, cond, Result, Ok, Err, inl, inr, refl, ap, sym, ◌∙◌, subst, arith}
-use Rattle.std.proofs.lemmas.Bool.{cases_lt}
+use Rattle.std.proofs.Common.{◌≡◌, ◌≢◌, ℕ, ◌+◌, ◌<◌, ◌≤◌, ◌==◌, if◌then◌else◌, List, length, slice_set, Bool, true, false, cond, Result, Ok, Err, inl, inr, refl, sym, ◌∙◌, subst, arith}
 use Rattle.std.proofs.lemmas.Bool.Decides.{nat_tests}
-use Rattle.rb_result.specs.Steps.{◌>>=◌}
 use Rattle.rb_result.proofs.Results.{same_ok, then-ok, then-err}
 use Rattle.rb_num.specs.declared.interval.NumFault.{NumFault}
 use Rattle.rb_num.specs.declared.interval.NumFault.TheVariants as N
 use Rattle.rb_num.specs.Interval.{Interval, zero_interval}
 use Rattle.rb_num.specs.Dot.{iv_dot}
 use Rattle.rb_num.specs.Refusing.{iv_add}
-use Rattle.rb_sweep.specs.Sweep.{sweep, upward}
+use Rattle.rb_sweep.specs.Sweep.{upward}
 use Rattle.rb_sweep.proofs.SweepLaws.{in_upward}
 use Rattle.rb_work.specs.declared.names.NameKind.TheVariants as K
 use Rattle.rb_work.specs.declared.names.RowFault.{RowFault}
 use Rattle.rb_work.specs.declared.names.RowFault.TheVariants.{Size}
-use Rattle.rb_work.specs.Names.{two, named_as}
+use Rattle.rb_work.specs.Names.{two}
 use Rattle.rb_factor.proofs.Refusals.{made, not_made}
 use Rattle.rb_bordered.specs.Steps.{IsRow}
 use Rattle.rb_bordered.specs.Coupling.{AreCoupled}
@@ -22,7 +20,7 @@ use Rattle.rb_coupling.specs.Steps.{pairs_of, interval_row_steps, of_row}
 use Rattle.rb_coupling.specs.Couple.{IsEntry, of_two, of_one, IsEntryRefused, in_sum, in_compliance, StandsBefore}
 use Rattle.rb_coupling.specs.Sweeps.{place_of, cell_at, entry_of, couple_step, couple_row_step, coupled_of}
 use Rattle.rb_coupling.proofs.Cells.{Fits, cell_same, cell_other, long_put}
-use Rattle.rb_coupling.proofs.Alone.{pick, pick_is, Fine, Done, Stopped, Apart, all_done, stopped}
+use Rattle.rb_coupling.proofs.Alone.{pick, pick_is, Apart, all_done, stopped}
 use Rattle.rb_coupling.proofs.Lines.{keeps_over}
 use Rattle.rb_coupling.proofs.Sizes.{dot_size, add_size}
 
@@ -179,12 +177,14 @@ module _ (n R : ℕ) (mus : List Interval) (Y Z : List Interval) where
       let own : (r : ℕ) → IsRow R r → (alone : Interval) × (products r r ≡ Ok alone) × (iv_add alone (of_row mus r) ≡ Ok (cell_at R t r r)) =
       λ r i. own_told r (cell_at R t r r) (coupled_entries s t h fit r r i (record { from = i.from; to = omega arith })) in
       let P : ℕ → Interval → Type 0 = λ r alone. (products r r ≡ Ok alone) × (iv_add alone (of_row mus r) ≡ Ok (cell_at R t r r)) in
-      let each : (r : ℕ) → IsRow R r → (alone : Interval) × P r alone = λ r i. let o = own r i in (o.0, (o.1, o.2)) in
-      (pick zero_interval P R each, record {
-        pairs = λ q r i j l. pair_told q r (cell_at R t q r) l (coupled_entries s t h fit q r i (record { from = j.from; to = omega arith }));
-        own = λ r i. (pick_is zero_interval P R each r i).0;
-        compliant = λ r i. (pick_is zero_interval P R each r i).1;
-      })
+      let each : (r : ℕ) → IsRow R r → (alone : Interval) × P r alone = λ r i. let o = own r i in (o.0, (o.1, o.2)) in (
+        pick zero_interval P R each,
+        record {
+          pairs = λ q r i j l. pair_told q r (cell_at R t q r) l (coupled_entries s t h fit q r i (record { from = j.from; to = omega arith }));
+          own = λ r i. (pick_is zero_interval P R each r i).0;
+          compliant = λ r i. (pick_is zero_interval P R each r i).1;
+        },
+      )
 
   pub coupled_long : (s t : List Interval) → coupled_of n R mus Y Z s ≡ Ok t → length s ≡ length t
   coupled_long s t h =

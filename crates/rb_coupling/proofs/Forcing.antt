@@ -8,8 +8,6 @@ use Rattle.rb_num.specs.declared.interval.NumFault.TheVariants as N
 use Rattle.rb_num.specs.Interval.{Interval, zero_interval, negative_of}
 use Rattle.rb_num.specs.Dot.{iv_dot}
 use Rattle.rb_num.specs.Refusing.{iv_add, iv_div}
-use Rattle.rb_num.specs.Quotient.{HasZero}
-use Rattle.rb_sweep.specs.Sweep.{sweep, upward, downward}
 use Rattle.rb_work.specs.declared.names.NameKind.TheVariants as K
 use Rattle.rb_work.specs.declared.names.RowFault.{RowFault}
 use Rattle.rb_work.specs.declared.names.RowFault.TheVariants.{Size}
@@ -27,7 +25,7 @@ use Rattle.rb_coupling.specs.Forces.{IsTotal, IsTotalRefused, in_sum, in_total, 
 use Rattle.rb_coupling.specs.Sweeps.{cell_at, total_of, side_step, sides_of, lessen_step, lessen_row_step, right_reduced_of, right_divide_step, right_divided_of, part_step, part_of, force_step, forces_of, add_step, added_of}
 use Rattle.rb_coupling.proofs.Cells.{number_same, number_other, long_put}
 use Rattle.rb_coupling.proofs.Alone.{pick, pick_is, Rise, rises, Halt, halts}
-use Rattle.rb_coupling.proofs.Numbers.{swept, swept_long, swept_others, NumberStop, swept_refused}
+use Rattle.rb_coupling.proofs.Numbers.{swept, swept_long, swept_others, swept_refused}
 use Rattle.rb_coupling.proofs.Sizes.{dot_size, add_size}
 
 -- ---- totals
@@ -74,12 +72,15 @@ module _ (n R : ℕ) (Y z g : List Interval) where
       let sided : (r : ℕ) → IsRow R r → Sided t r (total r) = pick_is zero_interval (Sided t) R each in
       let sums : (r : ℕ) → IsRow R r → (sum : Interval) × Summed n total r sum = λ r i. let k = (sided r i).0 in (k.sum, (k.sums, k.adds)) in
       let without : ℕ → Interval = pick zero_interval (Summed n total) R sums in
-      let summed : (r : ℕ) → IsRow R r → Summed n total r (without r) = pick_is zero_interval (Summed n total) R sums in
-      (without, total, record {
-        sums = λ r i. (summed r i).0;
-        totals = λ r i. (summed r i).1;
-        negatives = λ r i. (sided r i).1;
-      })
+      let summed : (r : ℕ) → IsRow R r → Summed n total r (without r) = pick_is zero_interval (Summed n total) R sums in (
+        without,
+        total,
+        record {
+          sums = λ r i. (summed r i).0;
+          totals = λ r i. (summed r i).1;
+          negatives = λ r i. (sided r i).1;
+        },
+      )
 
   pub sides_refused : (s : List Interval) (e : RowFault) → sides_of n R Y z g s ≡ Err e → IsRowSideRefused n R (cell_at n Y) (number_at z) (number_at g) e
   sides_refused s e h =
@@ -114,11 +115,13 @@ module _ (n R : ℕ) (Y lam : List Interval) where
   pub added_told : (s t : List Interval) → added_of n R Y lam s ≡ Ok t → length s ≡ n + 1
       → (more : ℕ → Interval) × AreForcesAdded interval_row_steps n R (cell_at n Y) (number_at s) (number_at lam) more (number_at t)
   added_told s t h fit =
-      let each = add_at s t h fit in
-      (pick zero_interval (Added s t) n each, record {
-        sums = λ c i. (pick_is zero_interval (Added s t) n each c i).0;
-        totals = λ c i. (pick_is zero_interval (Added s t) n each c i).1;
-      })
+      let each = add_at s t h fit in (
+        pick zero_interval (Added s t) n each,
+        record {
+          sums = λ c i. (pick_is zero_interval (Added s t) n each c i).0;
+          totals = λ c i. (pick_is zero_interval (Added s t) n each c i).1;
+        },
+      )
 
   pub added_refused : (s : List Interval) (e : RowFault) → added_of n R Y lam s ≡ Err e → IsAddRefused n R (cell_at n Y) (number_at s) (number_at lam) e
   added_refused s e h =
@@ -208,14 +211,17 @@ module _ (R : ℕ) (pairs : List Interval) where
       → (left : ℕ → ℕ → Interval) × IsRightReduced interval_row_steps R (cell_at R pairs) (number_at s) left (number_at t) × (length t ≡ R + 1)
   right_reduced s t h fit =
       let a : Ascent (lessen_row_step R pairs) R s t = T.rises (lessen_row_step R pairs) R s t h in
-      let u = reduced_until R (omega arith) s t a fit in
-      (λ c. number_at (a.at c), record {
-        first = u.first;
-        result = λ r l. own_stays R (omega arith) s t a fit r l;
-        updates = λ r q low high.
-            ap (λ x. lessened (number_at (a.at r) q) (cell_at R pairs q (suc r)) x) (own_stays R (omega arith) s t a fit r (omega arith))
-            ∙ u.updates r q (omega arith) low high;
-      }, ap (λ u. length u) (sym a.last) ∙ long_at R (omega arith) s t a fit R (omega arith))
+      let u = reduced_until R (omega arith) s t a fit in (
+        λ c. number_at (a.at c),
+        record {
+          first = u.first;
+          result = λ r l. own_stays R (omega arith) s t a fit r l;
+          updates = λ r q low high.
+              ap (λ x. lessened (number_at (a.at r) q) (cell_at R pairs q (suc r)) x) (own_stays R (omega arith) s t a fit r (omega arith))
+              ∙ u.updates r q (omega arith) low high;
+        },
+        ap (λ u. length u) (sym a.last) ∙ long_at R (omega arith) s t a fit R (omega arith),
+      )
 
   pub right_reduction_refused : (C : ℕ → Interval) (s : List Interval) (e : RowFault) → right_reduced_of R pairs s ≡ Err e → length s ≡ R + 1
       → IsForceRefused R (cell_at R pairs) C (number_at s) e
@@ -340,12 +346,14 @@ module _ (R : ℕ) (pairs : List Interval) where
         → (part : ℕ → ℕ → Interval) × AreForces interval_row_steps R (cell_at R pairs) (number_at e) part (number_at t)
     forces_told s t h fit =
         let d : Descent (force_step R pairs e) 0 R s t = descends (force_step R pairs e) R s t h in
-        let a = forces_above 0 (omega arith) s t d fit in
-        (part 0 (omega arith) s t d fit, record {
-          first = λ r i. a.first r i.from i.to;
-          result = λ r i. a.result r i.from i.to;
-          updates = λ r q i low high. a.updates r q i.from low high;
-        })
+        let a = forces_above 0 (omega arith) s t d fit in (
+          part 0 (omega arith) s t d fit,
+          record {
+            first = λ r i. a.first r i.from i.to;
+            result = λ r i. a.result r i.from i.to;
+            updates = λ r q i low high. a.updates r q i.from low high;
+          },
+        )
 
     pub forces_refused : (C side : ℕ → Interval) (left : ℕ → ℕ → Interval) (reduced : ℕ → Interval) (s : List Interval) (f : RowFault) →
         IsRightReduced interval_row_steps R (cell_at R pairs) side left reduced → IsRightDivided interval_row_steps R C reduced (number_at e) →

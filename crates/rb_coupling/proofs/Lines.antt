@@ -1,5 +1,5 @@
 -- A row of a table by rows and columns, as a list, and sweeps that answer as others do.
-use Rattle.std.proofs.Common.{◌≡◌, ◌≢◌, ℕ, ◌+◌, ◌*◌, ◌-◌, ◌<◌, ◌≤◌, List, [], ◌∷◌, length, take, drop, min, slice_set, slice_index_or, Result, Ok, Err, inl, inr, refl, ap, sym, ◌∙◌, subst, arith, length-drop}
+use Rattle.std.proofs.Common.{◌≡◌, ℕ, ◌+◌, ◌*◌, ◌-◌, ◌<◌, ◌≤◌, List, [], ◌∷◌, length, take, drop, slice_set, Result, Ok, Err, inl, inr, refl, ap, sym, ◌∙◌, subst, arith, length-drop}
 use Rattle.std.proofs.lemmas.List.{drop-set-add, get_or-take, get_or-drop, length-take-le}
 use Rattle.std.proofs.Math.Seq.{take-set-lt}
 use Rattle.rb_result.specs.Steps.{◌>>=◌}

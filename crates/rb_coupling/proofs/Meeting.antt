@@ -1,8 +1,7 @@
 -- The rows over two kinds of numbers that are related, as fractions and the intervals that they lie in: what is found stays related.
-use Rattle.std.proofs.Common.{◌≡◌, ◌⊎◌, inl, inr, ℕ, zero, suc, ◌+◌, ◌-◌, ◌<◌, ◌≤◌, refl, subst, arith}
+use Rattle.std.proofs.Common.{◌≡◌, inl, inr, ℕ, zero, suc, ◌+◌, ◌-◌, ◌<◌, ◌≤◌, subst, arith}
 use Rattle.std.proofs.lemmas.Bool.{cases_lt}
 use Rattle.rb_elimination.specs.Paths.{IsColumn, IsRegular, IsAncestor}
-use Rattle.rb_elimination.specs.Solving.{IsReduced, IsDivided, IsSubstituted}
 use Rattle.rb_elimination.proofs.Related.{StepsRelate, reduced_met, substituted_met}
 use Rattle.rb_bordered.specs.Steps.{RowSteps, IsRow}
 use Rattle.rb_bordered.specs.Coupling.{AreRowsReduced, AreCoupled}
@@ -176,9 +175,11 @@ module _ {A B : Type 0} {s : RowSteps A} {t : RowSteps B} (K : RowStepsRelate s 
       forces_found_met Y l C k g w lam Y' l' C' k' g' w' lam' h h' f start a =
           let w_met : R1 n w w' = reduced_met K.base n up regular L L' factors k h.left w k' h'.left w' h.reduced h'.reduced start in
           let z_met : R1 n h.z h'.z = λ c i. K.base.quotient _ _ _ _ _ _ (h.divided c i) (h'.divided c i) (w_met c i) (diagonal c i) in
-          let e_met : R1 R h.e h'.e = sides_met Y h.z g h.without h.total h.e Y' h'.z g' h'.without h'.total h'.e h.sides h'.sides f.rows z_met a in
-          (w_met, right_met l l' f.quotients C h.e h.row_left h.row_reduced h.row_divided h.row_part lam C' h'.e h'.row_left h'.row_reduced h'.row_divided h'.row_part lam'
-          h.right_reduced h.right_divided h.forces h'.right_reduced h'.right_divided h'.forces f.pivots e_met)
+          let e_met : R1 R h.e h'.e = sides_met Y h.z g h.without h.total h.e Y' h'.z g' h'.without h'.total h'.e h.sides h'.sides f.rows z_met a in (
+            w_met,
+            right_met l l' f.quotients C h.e h.row_left h.row_reduced h.row_divided h.row_part lam C' h'.e h'.row_left h'.row_reduced h'.row_divided h'.row_part lam'
+                h.right_reduced h.right_divided h.forces h'.right_reduced h'.right_divided h'.forces f.pivots e_met,
+          )
 
       pub found_with_met : (Y : ℕ → ℕ → A) (w lam x : ℕ → A) (Y' : ℕ → ℕ → B) (w' lam' x' : ℕ → B) →
           IsFoundWithForces s n up R L D Y w lam x → IsFoundWithForces t n up R L' D' Y' w' lam' x' → R2 Y Y' → R1 n w w' → R1 R lam lam' → R1 n x x'

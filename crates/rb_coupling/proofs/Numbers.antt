@@ -1,5 +1,5 @@
 -- Sweeps that put one number at each place of a list, from what stood there.
-use Rattle.std.proofs.Common.{◌≡◌, ◌≢◌, ℕ, ◌+◌, ◌<◌, ◌≤◌, List, length, slice_set, Result, Ok, Err, refl, ap, sym, ◌∙◌, subst, arith}
+use Rattle.std.proofs.Common.{◌≡◌, ◌≢◌, ℕ, ◌+◌, ◌<◌, ◌≤◌, List, length, slice_set, Result, Ok, Err, refl, ap, sym, ◌∙◌, arith}
 use Rattle.rb_result.specs.Steps.{◌>>=◌}
 use Rattle.rb_num.specs.declared.interval.NumFault.{NumFault}
 use Rattle.rb_num.specs.Interval.{Interval}
@@ -12,7 +12,7 @@ use Rattle.rb_work.specs.Names.{named_as}
 use Rattle.rb_factor.specs.Sweeps.{number_at}
 use Rattle.rb_factor.proofs.Refusals.{made, not_made}
 use Rattle.rb_coupling.proofs.Cells.{number_same, number_other, long_put}
-use Rattle.rb_coupling.proofs.Alone.{Fine, Done, Stopped, Apart, all_done, stopped}
+use Rattle.rb_coupling.proofs.Alone.{Apart, all_done, stopped}
 use Rattle.rb_coupling.proofs.Lines.{keeps_over}
 
 -- the number of c becomes out x, where x is the value of c and of what stood there
@@ -48,9 +48,11 @@ module _ (step : ℕ → List Interval → Result (List Interval) RowFault) (nam
         → (x : Interval) × (value c (number_at s c) ≡ Ok x) × (number_at t c ≡ out x)
     swept s t h fit c low high =
         let d = all_done step Alike alike_none alike_both lo hi (apart lo hi) s t h c low high in
-        let p = put_told c d.fine.before d.fine.behind d.fine.does in
-        (p.0, ap (value c) d.fine.same.same ∙ p.1,
-        sym d.stays.same ∙ ap (λ w. number_at w c) (sym p.2) ∙ number_same n d.fine.before c (out p.0) (omega arith) (sym d.fine.same.long ∙ fit))
+        let p = put_told c d.fine.before d.fine.behind d.fine.does in (
+          p.0,
+          ap (value c) d.fine.same.same ∙ p.1,
+          sym d.stays.same ∙ ap (λ w. number_at w c) (sym p.2) ∙ number_same n d.fine.before c (out p.0) (omega arith) (sym d.fine.same.long ∙ fit),
+        )
 
     pub swept_long : (s t : List Interval) → sweep step (upward lo hi) s ≡ Ok t → length s ≡ length t
     swept_long s t h =

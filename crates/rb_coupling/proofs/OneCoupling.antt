@@ -1,5 +1,5 @@
 -- There is one answer of the coupling of rows: the same factors or the same refusal, and not both.
-use Rattle.std.proofs.Common.{◌≡◌, ◌⊎◌, inl, inr, ℕ, zero, suc, ◌+◌, ◌<◌, ◌≤◌, Ok, Err, refl, ap, sym, ◌∙◌, subst, arith}
+use Rattle.std.proofs.Common.{◌≡◌, inl, inr, ℕ, zero, suc, ◌<◌, ◌≤◌, Ok, Err, refl, ap, sym, ◌∙◌, subst, arith}
 use mathlib.Core.Path.{ap₂}
 use Rattle.std.proofs.lemmas.Bool.{cases_lt}
 use Rattle.rb_result.proofs.Results.{same_ok, not-both}
@@ -12,7 +12,7 @@ use Rattle.rb_work.specs.declared.names.NameKind.TheVariants as K
 use Rattle.rb_work.specs.declared.names.RowFault.{RowFault}
 use Rattle.rb_work.specs.declared.names.RowFault.TheVariants.{Size, Pivot}
 use Rattle.rb_work.specs.Names.{one, two}
-use Rattle.rb_elimination.specs.Paths.{IsColumn, IsRegular}
+use Rattle.rb_elimination.specs.Paths.{IsRegular}
 use Rattle.rb_elimination.specs.Solving.{IsReduced, IsDivided}
 use Rattle.rb_factor.specs.Steps.{lessened, interval_steps, AreDivisors}
 use Rattle.rb_factor.specs.Laws.{SameNumbers, SameFactors}
@@ -24,8 +24,8 @@ use Rattle.rb_bordered.specs.Elimination.{AreEliminated}
 use Rattle.rb_bordered.specs.Forces.{HaveRowFactors}
 use Rattle.rb_coupling.specs.Steps.{pairs_of, interval_row_steps}
 use Rattle.rb_coupling.specs.Couple.{IsRowRefused, by_reduce, by_divide, IsEntry, of_two, of_one, IsEntryRefused, in_sum, in_compliance, StandsBefore, EliminatesRow, AreEliminatedUntil, IsEliminationRefused, by_pivot, by_quotient, by_update, IsCoupleRefused, by_row, by_entry, by_elimination}
-use Rattle.rb_coupling.specs.Laws.{SameRows, SameQuotients, CouplingIsOne}
-use Rattle.rb_coupling.proofs.Meeting.{FactorsMet, row_factors_met, rows_met, coupled_met}
+use Rattle.rb_coupling.specs.Laws.{SameRows, CouplingIsOne}
+use Rattle.rb_coupling.proofs.Meeting.{row_factors_met, rows_met, coupled_met}
 use Rattle.rb_coupling.proofs.Enclosing.{pairs_same, rows_same}
 
 numbers_back : (n : ℕ) (v w : ℕ → Interval) → SameNumbers n v w → SameNumbers n w v

@@ -1,36 +1,29 @@
 -- What the first step of a solution on each row leaves, and its quotients, and what is refused.
-use Rattle.std.proofs.Common.{◌≡◌, ◌≢◌, ℕ, zero, suc, ◌+◌, ◌*◌, ◌<◌, ◌≤◌, List, length, slice_set, Result, Ok, Err, refl, ap, sym, ◌∙◌, subst, arith}
-use Rattle.rb_result.specs.Steps.{◌>>=◌}
-use Rattle.rb_result.proofs.Results.{same_ok, same_err, then-ok, then-err, not-both}
+use Rattle.std.proofs.Common.{◌≡◌, ◌≢◌, ℕ, zero, suc, ◌+◌, ◌<◌, ◌≤◌, List, length, slice_set, Result, Ok, Err, refl, ap, sym, ◌∙◌, subst, arith}
+use Rattle.rb_result.proofs.Results.{same_ok}
 use Rattle.rb_num.specs.declared.interval.NumFault.{NumFault}
-use Rattle.rb_num.specs.Interval.{Interval, zero_interval}
+use Rattle.rb_num.specs.Interval.{Interval}
 use Rattle.rb_num.specs.Refusing.{iv_div}
-use Rattle.rb_num.specs.Quotient.{HasZero}
-use Rattle.rb_sweep.specs.Sweep.{sweep, upward, downward, Among}
+use Rattle.rb_sweep.specs.Sweep.{sweep, upward, downward}
 use Rattle.rb_sweep.proofs.SweepLaws.{in_upward, in_downward}
 use Rattle.rb_work.specs.declared.names.NameKind.TheVariants as K
 use Rattle.rb_work.specs.declared.names.RowFault.{RowFault}
 use Rattle.rb_work.specs.declared.names.RowFault.TheVariants.{Size}
-use Rattle.rb_work.specs.Names.{one, named_as}
+use Rattle.rb_work.specs.Names.{one}
 use Rattle.rb_work.specs.Path.{above, Ascends, IsOn, path}
-use Rattle.rb_work.proofs.PathLaws.{on_most, above_below}
-use Rattle.rb_elimination.specs.Paths.{IsColumn, IsAncestor}
+use Rattle.rb_work.proofs.PathLaws.{on_most}
+use Rattle.rb_elimination.specs.Paths.{IsColumn}
 use Rattle.rb_elimination.specs.Solving.{IsReduced, IsDivided}
 use Rattle.rb_factor.specs.Steps.{lessened, interval_steps, AreDivisors}
 use Rattle.rb_factor.specs.Solve.{IsReduceRefused, IsDivideRefused}
 use Rattle.rb_factor.specs.Sweeps.{entry_at, number_at}
 use Rattle.rb_factor.specs.Sweeps as F
 use Rattle.rb_factor.proofs.Refusals.{made, not_made}
-use Rattle.rb_factor.proofs.Paths.{ancestor_less}
 use Rattle.rb_factor.proofs.Reducing.{reduced, reduction_refused}
 use Rattle.rb_factor.proofs.Finding.{divided, division_refused}
-use Rattle.rb_bordered.specs.Steps.{IsRow}
-use Rattle.rb_bordered.specs.Coupling.{AreRowsReduced}
-use Rattle.rb_coupling.specs.Steps.{interval_row_steps}
-use Rattle.rb_coupling.specs.Couple.{IsRowRefused, by_reduce, by_divide}
-use Rattle.rb_coupling.specs.Sweeps.{place_of, cell_at, copy_step, copied_of, take_step, reduce_step, reduced_of, divide_step, divided_of, row_step, rows_of}
+use Rattle.rb_coupling.specs.Sweeps.{place_of, cell_at, copy_step, copied_of, take_step, reduce_step, reduced_of, divide_step, divided_of}
 use Rattle.rb_coupling.proofs.Cells.{Fits, cell_same, cell_other, long_put}
-use Rattle.rb_coupling.proofs.Alone.{pick, pick_is, Fine, Done, Stopped, Apart, all_done, stopped}
+use Rattle.rb_coupling.proofs.Alone.{all_done}
 use Rattle.rb_coupling.proofs.Lines.{line, line_at, line_put, line_long, Answering, answers, answers_refused, refused_so, keeps_over, remade, refailed}
 
 -- ---- the same numbers
@@ -219,17 +212,21 @@ module _ (up : List ℕ) (R r : ℕ) (row : r ≤ R) where
     pub row_reduced : (s t : List Interval) → reduced_of up table r s ≡ Ok t → Fits R (length up) s → (left : ℕ → ℕ → Interval) × RowReduced s t left
     row_reduced s t h fit =
         let k = answers (line (length up) r) (reduce_step up table r) (F.reduce_step up table) (downward 1 (length up + 1)) reduces_as s t h in
-        let p = reduced up ascends table (line (length up) r s) (line (length up) r t) k (line_long R (length up) r s row fit) in
-        (p.0, reduced_as (length up) (above up) (entry_at up table) (number_at (line (length up) r s)) (cell_at (length up) s r) p.0 (number_at (line (length up) r t)) (cell_at (length up) t r)
-        (λ c i. line_at (length up) r s c i.to) (λ c i. sym (line_at (length up) r t c i.to)) p.1)
+        let p = reduced up ascends table (line (length up) r s) (line (length up) r t) k (line_long R (length up) r s row fit) in (
+          p.0,
+          reduced_as (length up) (above up) (entry_at up table) (number_at (line (length up) r s)) (cell_at (length up) s r) p.0 (number_at (line (length up) r t)) (cell_at (length up) t r)
+              (λ c i. line_at (length up) r s c i.to) (λ c i. sym (line_at (length up) r t c i.to)) p.1,
+        )
 
     pub row_reduction_refused : (s : List Interval) (e : RowFault) → reduced_of up table r s ≡ Err e → Fits R (length up) s
         → (f : RowFault) × IsReduceRefused (length up) (above up) (entry_at up table) (cell_at (length up) s r) f × (e ≡ Size (one K.Y r))
     row_reduction_refused s e h fit =
         let k = answers_refused (line (length up) r) (reduce_step up table r) (F.reduce_step up table) (downward 1 (length up + 1)) reduces_as s e h in
-        let p = reduction_refused up ascends table (line (length up) r s) k.0 k.1 (line_long R (length up) r s row fit) in
-        (k.0, reduce_refused_as (length up) (above up) (entry_at up table) (number_at (line (length up) r s)) (cell_at (length up) s r) k.0 (λ c i. line_at (length up) r s c i.to) p,
-        refused_so (reduce_step up table r) (λ e. e ≡ Size (one K.Y r)) (downward 1 (length up + 1)) reduce_named s e h)
+        let p = reduction_refused up ascends table (line (length up) r s) k.0 k.1 (line_long R (length up) r s row fit) in (
+          k.0,
+          reduce_refused_as (length up) (above up) (entry_at up table) (number_at (line (length up) r s)) (cell_at (length up) s r) k.0 (λ c i. line_at (length up) r s c i.to) p,
+          refused_so (reduce_step up table r) (λ e. e ≡ Size (one K.Y r)) (downward 1 (length up + 1)) reduce_named s e h,
+        )
 
     -- ---- the quotients
     module _ (Y : List Interval) where
@@ -283,7 +280,9 @@ module _ (up : List ℕ) (R r : ℕ) (row : r ≤ R) where
       pub row_division_refused : (s : List Interval) (e : RowFault) → divided_of up table Y r s ≡ Err e → AreDivisors (length up) (λ c. entry_at up table c c)
           → (f : RowFault) × IsDivideRefused (length up) (λ c. entry_at up table c c) (cell_at (length up) Y r) f × (e ≡ Size (one K.Z r))
       row_division_refused s e h divisors =
-          let k = answers_refused (line (length up) r) (divide_step up table Y r) (F.divide_step up table (line (length up) r Y)) (upward 1 (length up + 1)) divides_as s e h in
-          (k.0, divide_refused_as (length up) (λ c. entry_at up table c c) (number_at (line (length up) r Y)) (cell_at (length up) Y r) k.0 (λ c i. sym (line_at (length up) r Y c i.to))
-          (division_refused up ascends table (line (length up) r Y) (line (length up) r s) k.0 k.1 divisors),
-          refused_so (divide_step up table Y r) (λ e. e ≡ Size (one K.Z r)) (upward 1 (length up + 1)) divide_named s e h)
+          let k = answers_refused (line (length up) r) (divide_step up table Y r) (F.divide_step up table (line (length up) r Y)) (upward 1 (length up + 1)) divides_as s e h in (
+            k.0,
+            divide_refused_as (length up) (λ c. entry_at up table c c) (number_at (line (length up) r Y)) (cell_at (length up) Y r) k.0 (λ c i. sym (line_at (length up) r Y c i.to))
+                (division_refused up ascends table (line (length up) r Y) (line (length up) r s) k.0 k.1 divisors),
+            refused_so (divide_step up table Y r) (λ e. e ≡ Size (one K.Z r)) (upward 1 (length up + 1)) divide_named s e h,
+          )

@@ -1,5 +1,5 @@
 -- Sums are refused for their size alone.
-use Rattle.std.proofs.Common.{◌≡◌, List, Bool, true, false, cond, Result, Ok, Err, refl}
+use Rattle.std.proofs.Common.{◌≡◌, List, Bool, true, false, cond, Ok, Err, refl}
 use Rattle.rb_num.specs.declared.interval.NumFault.{NumFault}
 use Rattle.rb_num.specs.declared.interval.NumFault.TheVariants as N
 use Rattle.rb_num.specs.Interval.{Interval, sum_of}

@@ -1,6 +1,6 @@
 -- What the forces of rows over intervals are, and what is refused first. Featherstone, Rigid Body Dynamics Algorithms, chapter 8.
 use Rattle.std.specs.Prelude.{◌≡◌, ℕ, suc, ◌<◌, ◌≤◌, Ok, Err}
-use Rattle.rb_num.specs.Interval.{Interval, negative_of}
+use Rattle.rb_num.specs.Interval.{Interval}
 use Rattle.rb_num.specs.Dot.{iv_dot}
 use Rattle.rb_num.specs.Refusing.{iv_add, iv_div}
 use Rattle.rb_num.specs.declared.interval.NumFault.TheVariants as N

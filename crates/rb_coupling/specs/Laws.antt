@@ -14,7 +14,7 @@ use Rattle.rb_factor.specs.Laws.{NumbersLie, FactorsLie, SameNumbers, SameFactor
 use Rattle.rb_bordered.specs.Steps.{fraction_row_steps, IsRow}
 use Rattle.rb_bordered.specs.Forces.{IsRightReduced, IsRightDivided, AreForces, AreRowSides, AreForcesAdded, HaveRowFactors, AreForcesFound, IsFoundWithForces}
 use Rattle.rb_bordered.specs.Equations.{IsOneBorderedSolution}
-use Rattle.rb_coupling.specs.Steps.{interval_row_steps, of_row}
+use Rattle.rb_coupling.specs.Steps.{interval_row_steps}
 use Rattle.rb_coupling.specs.Couple.{IsCoupleRefused}
 use Rattle.rb_coupling.specs.Forces.{IsForceRefused}
 

@@ -35,10 +35,7 @@ fn lessen_number(r: u32, c: u32, own: Iv, d: u32, work: &mut Work) -> Result<(),
     ensures others { work.new ≡ record work.old { Y = work.new.Y } }
 {
     let m = work.L(c, d).neg();
-    let v = named(
-        work.Y(r, d).plus_product(m, own),
-        Name::one(NameKind::Y, r),
-    )?;
+    let v = named(work.Y(r, d).plus_product(m, own), Name::one(NameKind::Y, r))?;
     work.set_Y(r, d, v);
     Ok(())
 }

@@ -2,7 +2,7 @@ use Rattle.std.proofs.Common.{◌≡◌, Ok, refl, ap, ◌∙◌, subst, arith}
 use Rattle.rb_sweep.specs.Sweep.{sweep}
 use Rattle.rb_work.specs.Path.{above, path}
 use Rattle.rb_work.specs.View.{View}
-use Rattle.rb_coupling.specs.Sweeps.{cell_at, take_step, reduce_step}
+use Rattle.rb_coupling.specs.Sweeps.{take_step, reduce_step}
 use Rattle.rb_factor.proofs.Paths.{on_first, on_further}
 use Rattle.rb_factor.proofs.Going.{going}
 use Rattle.rb_coupling.proofs.Going.{others_Y, up_Y}
