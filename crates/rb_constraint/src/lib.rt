@@ -22,6 +22,3 @@ pub use faults::{ConFault, ConKind};
 pub use laws::{choice_law, file_law};
 pub use read::read_constraints;
 pub use rows::fill_rows;
-
-#[cfg(test)]
-mod tests;
