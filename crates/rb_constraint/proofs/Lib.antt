@@ -5,12 +5,12 @@ pub mod LinkSearch
 pub mod StepLaws
 pub mod RowLaws
 pub mod FileLaws
-mod Upward
-mod RowPass
-mod BiasPass
-mod RowsLie
-mod BiasLies
-mod Slots
-mod WaysLie
-mod TableLies
-mod RowsEnclose
+pub mod Upward
+pub mod RowPass
+pub mod BiasPass
+pub mod RowsLie
+pub mod BiasLies
+pub mod Slots
+pub mod WaysLie
+pub mod TableLies
+pub mod RowsEnclose

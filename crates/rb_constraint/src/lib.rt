@@ -12,6 +12,7 @@ mod links;
 mod numbers;
 mod read;
 mod record;
+mod row_laws;
 mod rows;
 mod ways;
 
@@ -21,4 +22,5 @@ pub use constraints::{Constraint, Constraints, MAX_ROWS, Row};
 pub use faults::{ConFault, ConKind};
 pub use laws::{choice_law, file_law};
 pub use read::read_constraints;
+pub use row_laws::rows_law;
 pub use rows::fill_rows;
