@@ -1,5 +1,5 @@
 -- What the answers of the sweeps over a work say of it.
-use Rattle.std.proofs.Common.{◌≡◌, List, Result, Ok, Err, OnOk, sym, ◌∙◌, subst, inl, inr}
+use Rattle.std.proofs.Common.{◌≡◌, List, Result, Ok, Err, OnOk, refl, sym, ◌∙◌, subst, inl, inr}
 use Rattle.rb_result.specs.Steps.{◌>>=◌}
 use Rattle.rb_result.proofs.Results.{same_ok, then-ok, then-err}
 use Rattle.rb_num.specs.Interval.{Interval}
@@ -212,6 +212,7 @@ module _ (w : View) (sized : IsSized w) where
         right_reduced = a.1;
         right_divided = right_divided w.rows w.pairs p.reduced t.0 p.divides a.2;
         forces = c.1;
+        kept = λ r i. refl;
       }
 
   pub forces_refused_of : HoldsRowDivisors w → (e : RowFault) → row_forces_of w.rows w.pairs (w.e, w.lam) ≡ Err e → RefusesRowForces w e

@@ -15,3 +15,4 @@ mod Answered
 mod Borders
 mod OneForce
 mod OneCoupling
+mod Rigid

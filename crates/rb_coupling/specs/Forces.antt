@@ -22,7 +22,7 @@ pub record HoldsRowSides (given held : View) : Type 0 where
   pub total : ℕ → Interval
   pub are : AreRowSides interval_row_steps (columns_of given) given.rows (Y_at given) (z_at given) (g_at given) without total (e_at held)
 
--- lam of a work is what the quotients l and the pivots C of another one find for its right side e
+-- lam of a work is what the quotients l and the pivots C of another one find for its right side e, and e what is divided by the pivots under way
 pub record HoldsRowForces (given held : View) : Type 0 where
   pub left : ℕ → ℕ → Interval
   pub reduced : ℕ → Interval
@@ -31,6 +31,7 @@ pub record HoldsRowForces (given held : View) : Type 0 where
   pub right_reduced : IsRightReduced interval_row_steps given.rows (l_at given) (e_at given) left reduced
   pub right_divided : IsRightDivided interval_row_steps given.rows (C_at given) reduced divided
   pub forces : AreForces interval_row_steps given.rows (l_at given) divided part (lam_at held)
+  pub kept : (r : ℕ) → IsRow given.rows r → e_at held r ≡ divided r
 
 -- w of a work is that of another one with what the forces add
 pub record HoldsAddedForces (given held : View) : Type 0 where

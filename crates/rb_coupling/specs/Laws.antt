@@ -1,7 +1,9 @@
 -- That there is one answer, and what it encloses.
-use Rattle.std.specs.Prelude.{◌≡◌, ℕ, ◌<◌}
+use Rattle.std.specs.Prelude.{◌≡◌, ℕ, ◌<◌, ◌≤◌, Err}
 use Rattle.rb_frac.specs.Frac.{Frac}
-use Rattle.rb_num.specs.Interval.{Interval}
+use Rattle.rb_num.specs.Interval.{Interval, zero_interval}
+use Rattle.rb_num.specs.Dot.{iv_dot}
+use Rattle.rb_num.specs.declared.interval.NumFault.TheVariants as N
 use Rattle.rb_num.specs.Fraction.{LiesIn}
 use Rattle.rb_work.specs.declared.names.RowFault.{RowFault}
 use Rattle.rb_work.specs.Path.{above}
@@ -12,10 +14,10 @@ use Rattle.rb_elimination.specs.Laws.{ArePivots}
 use Rattle.rb_factor.specs.Steps.{AreDivisors}
 use Rattle.rb_factor.specs.Laws.{NumbersLie, FactorsLie, SameNumbers, SameFactors}
 use Rattle.rb_bordered.specs.Steps.{fraction_row_steps, IsRow}
-use Rattle.rb_bordered.specs.Forces.{IsRightReduced, IsRightDivided, AreForces, AreRowSides, AreForcesAdded, HaveRowFactors, AreForcesFound, IsFoundWithForces}
+use Rattle.rb_bordered.specs.Forces.{IsRightReduced, IsRightDivided, AreForces, AreRowSides, AreForcesAdded, HaveRowFactors, HaveRigidFactors, AreForcesFound, IsFoundWithForces}
 use Rattle.rb_bordered.specs.Equations.{IsOneBorderedSolution}
-use Rattle.rb_coupling.specs.Steps.{interval_row_steps}
-use Rattle.rb_coupling.specs.Couple.{IsCoupleRefused}
+use Rattle.rb_coupling.specs.Steps.{pairs_of, interval_row_steps}
+use Rattle.rb_coupling.specs.Couple.{IsEntryRefused, IsCoupleRefused}
 use Rattle.rb_coupling.specs.Forces.{IsForceRefused}
 
 -- ---- what is enclosed
@@ -85,6 +87,21 @@ BorderedEncloses =
     AreForcesFound interval_row_steps n up R Ls Ds Ys ls Cs ks gs ws lams → IsFoundWithForces interval_row_steps n up R Ls Ds Ys ws lams xs →
     (m L : ℕ → ℕ → Frac) (D : ℕ → Frac) (J : ℕ → ℕ → Frac) (mu k g : ℕ → Frac) → HasFactors n up m L D →
     AreBorderedWithin n up R L D J mu k g Ls Ds Js mus ks gs → BorderedSolutionLies n R m J mu k g xs lams
+
+-- ---- rows without compliance
+-- the coupling is that of rows without compliance, and an entry is refused for its sum alone
+pub record IsRigid (n : ℕ) (up : ℕ → ℕ) (R : ℕ) (L : ℕ → ℕ → Interval) (D : ℕ → Interval) (J : ℕ → ℕ → Interval) (mu : ℕ → Interval) : Type 0 where
+  pub rigid : (Y l : ℕ → ℕ → Interval) (C : ℕ → Interval) → HaveRowFactors interval_row_steps n up R L D J mu Y l C →
+      HaveRigidFactors interval_row_steps n up R L D J Y l C
+  pub compliant : (Y l : ℕ → ℕ → Interval) (C : ℕ → Interval) → HaveRigidFactors interval_row_steps n up R L D J Y l C →
+      HaveRowFactors interval_row_steps n up R L D J mu Y l C
+  pub entries : (Y Z : ℕ → ℕ → Interval) (q r : ℕ) → IsRow R r → IsEntryRefused n Y Z mu q r → iv_dot (pairs_of (Y r) (Z q) n) ≡ Err N.Size
+
+-- so it is where all compliances are zero, of the columns that a work can have
+abbrev pub ZeroIsRigid : Type 0
+ZeroIsRigid =
+    (n : ℕ) (up : ℕ → ℕ) (R : ℕ) (L : ℕ → ℕ → Interval) (D : ℕ → Interval) (J : ℕ → ℕ → Interval) (mu : ℕ → Interval) → n ≤ 64 →
+    ((r : ℕ) → IsRow R r → mu r ≡ zero_interval) → IsRigid n up R L D J mu
 
 -- ---- one answer
 abbrev pub SameRows : ℕ → ℕ → (ℕ → ℕ → Interval) → (ℕ → ℕ → Interval) → Type 0
