@@ -1,15 +1,15 @@
 -- The rows of constraints: where they are, between which bodies, and that there is a choice of their numbers.
 use Rattle.std.proofs.Common.{◌≡◌, ℕ, zero, suc, ◌≤◌, ◌<◌, ◌+◌, ◌-◌, List, [], ◌∷◌, ◌++◌, length, map, get_or, Some, refl, sym, ap, ◌∙◌, subst, arith, append_assoc}
-use Rattle.std.specs.Prelude.{slice_get}
+use Rattle.std.specs.Prelude.{slice_get, slice_index_or}
 use Rattle.std.specs.List.{AllZip, AllByRecursion}
 use Rattle.std.specs.Option.{option_map_or}
-use Rattle.std.proofs.lemmas.List.{length-append, append-nil}
+use Rattle.std.proofs.lemmas.List.{length-append, length-map, append-nil}
 use Rattle.std.proofs.lemmas.Option.{slice_get_read}
 use lib.Signed.{≤ℤ_refl}
 use Rattle.rb_frac.specs.Ops.{V3}
 use Rattle.rb_frac.specs.Frac.{Frac}
 use Rattle.rb_frac.specs.Tables.{Vectors, vector}
-use Rattle.rb_num.specs.Interval.{Interval, grid}
+use Rattle.rb_num.specs.Interval.{Interval, grid, zero_interval}
 use Rattle.rb_num.specs.Fraction.{LiesIn}
 use Rattle.rb_num.specs.Least.{units}
 use Rattle.rb_num.proofs.Order.{times_pos}
@@ -23,7 +23,7 @@ use Rattle.rb_constraint.specs.declared.axes.Direction.TheVariants as To
 use Rattle.rb_constraint.specs.declared.constraints.Constraint.{Constraint}
 use Rattle.rb_constraint.specs.declared.constraints.Row.{Row}
 use Rattle.rb_constraint.specs.Axes.{axis_of, directions}
-use Rattle.rb_constraint.specs.Constraints.{row_of, own_rows, rows_of, row_at, AreNumbersOrdered, IsConstraintKept, AreConstraints, flat_row, flat_numbers, no_row, no_numbers, constraints_of, NumbersChosen}
+use Rattle.rb_constraint.specs.Constraints.{row_of, own_rows, rows_of, row_at, AreNumbersOrdered, IsConstraintKept, AreConstraints, flat_row, flat_numbers, compliance_of, no_row, no_numbers, constraints_of, NumbersChosen}
 use Rattle.rb_constraint.specs.File.{NumberedLine, second_link, IsLinkOrWorld, Says}
 use Rattle.rb_constraint.specs.Laws.{RowsFitRobot, HasChoice}
 
@@ -187,3 +187,20 @@ has_choice list are =
 -- no constraints
 pub none_kept : AreConstraints []
 none_kept = record { differ = λ i j d before within. absurd (omega arith); few = omega (arith, ap length rows_of-none); kept = tt }
+
+-- ---- compliances
+at_index : (rows : List Row) (k : ℕ) → slice_index_or (map compliance_of rows) k zero_interval ≡ (option_map_or flat_numbers (slice_get rows k) no_numbers).compliance
+at_index [] k = refl
+at_index (w ∷ rows) zero = refl
+at_index (w ∷ rows) (suc k) = at_index rows k
+
+-- of the row of each number
+pub compliance_read : (list : List Constraint) (compliances : List Interval) (r : ℕ) → HasRow (constraints_of list) r → compliances ≡ map compliance_of (rows_of list)
+    → slice_index_or compliances (r - 1) zero_interval ≡ ((constraints_of list).numbers r).compliance
+compliance_read list compliances zero there are = absurd (omega (arith, there.from))
+compliance_read list compliances (suc k) there are =
+    let at : suc k - 1 ≡ k = omega arith in
+    rw (at, are) (at_index (rows_of list) k)
+
+pub compliances_counted : (list : List Constraint) (compliances : List Interval) → compliances ≡ map compliance_of (rows_of list) → length compliances ≡ length (rows_of list)
+compliances_counted list compliances are = ap length are ∙ length-map (rows_of list) compliance_of

@@ -82,6 +82,9 @@ flat_row w = record { axis = w.axis; turns = w.turns; first = w.first; second = 
 abbrev pub flat_numbers : Row → RowNumbers Interval
 flat_numbers w = record { first_point = w.first_point; second_point = w.second_point; compliance = w.compliance; restitution = w.restitution }
 
+abbrev pub compliance_of : Row → Interval
+compliance_of w = w.compliance
+
 -- what stands where there is no row
 abbrev pub no_row : Flat.Row
 no_row = record { axis = 0; turns = false; first = 0; second = 0 }

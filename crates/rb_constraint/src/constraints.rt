@@ -1,9 +1,10 @@
 //! Constraints, and the rows of equations that they have.
-ghost use Rattle.std.specs.Prelude.{◌≡◌, ◌≤◌, ◌<◌, ◌+◌, ◌-◌, ◌++◌, ◌∷◌, [], length, map, slice_get, bytes_eq, OnOk, IfOk, Some};
+ghost use Rattle.std.specs.Prelude.{◌≡◌, ◌≤◌, ◌<◌, ◌+◌, ◌-◌, ◌++◌, ◌∷◌, [], ℕ, length, map, slice_get, slice_index_or, bytes_eq, OnOk, IfOk, Some};
 ghost use Rattle.std.specs.List.{AllByRecursion};
+ghost use Rattle.rb_num.specs.Interval.{zero_interval};
 ghost use Rattle.rb_flat.specs.Contact.{HasRow};
 ghost use Rattle.rb_constraint.specs.Axes.{where_held, directions};
-ghost use Rattle.rb_constraint.specs.Constraints.{row_of, own_rows, rows_of, row_at, flat_row, flat_numbers, constraints_of, IsConstraintKept, AreConstraints};
+ghost use Rattle.rb_constraint.specs.Constraints.{row_of, own_rows, rows_of, row_at, flat_row, flat_numbers, compliance_of, constraints_of, IsConstraintKept, AreConstraints};
 
 use crate::axes::{Axes, Direction};
 use rb_num::Iv;
@@ -125,24 +126,32 @@ impl Made {
     }
 }
 
+/// The compliances of rows.
+fn compliances_of(alloc: Global, rows: &[Row]) -> Result<Vec<Iv>, AllocError>
+    ensures { IfOk result (λ made. made.items ≡ map compliance_of rows.now) }
+{
+    rows.iter().map(|row| row.compliance).collect(alloc)
+}
+
 /// Constraints of different names with at most `MAX_ROWS` rows. The rows are numbered from 1 over all constraints: of each, points along x, y and z,
 /// and then turns about them.
 #[derive(Debug, Drop)]
 pub struct Constraints {
     list: Vec<Constraint>,
     rows: Vec<Row>,
+    compliances: Vec<Iv>,
 }
 
 impl Model for Constraints {
-    ghost use Rattle.std.specs.Prelude.{◌≡◌, List};
+    ghost use Rattle.std.specs.Prelude.{◌≡◌, List, map};
     ghost use Rattle.rb_constraint.specs.declared.constraints.Constraint.{Constraint};
-    ghost use Rattle.rb_constraint.specs.Constraints.{rows_of, AreConstraints};
+    ghost use Rattle.rb_constraint.specs.Constraints.{rows_of, compliance_of, AreConstraints};
 
     ghost Value = { List Constraint };
 
     ghost view = { λ k. k.list.items };
 
-    ghost invariant = { λ k. (k.rows.items ≡ rows_of k.list.items) × AreConstraints k.list.items };
+    ghost invariant = { λ k. (k.rows.items ≡ rows_of k.list.items) × (k.compliances.items ≡ map compliance_of k.rows.items) × AreConstraints k.list.items };
 }
 
 impl Constraints {
@@ -153,19 +162,22 @@ impl Constraints {
         Constraints {
             list: Vec::new(alloc),
             rows: Vec::new(alloc),
+            compliances: Vec::new(alloc),
         }
     }
 
     /// Those that were made.
-    pub(crate) fn of(made: Made) -> Constraints
+    pub(crate) fn of(alloc: Global, made: Made) -> Result<Constraints, AllocError>
         requires rows { made.rows.items ≡ rows_of made.list.items }
         requires kept { AreConstraints made.list.items }
-        ensures { result ≡ made.list.items }
+        ensures { IfOk result (λ k. k ≡ made.list.items) }
     {
-        Constraints {
+        let compliances = compliances_of(alloc, made.rows.as_slice())?;
+        Ok(Constraints {
             list: made.list,
             rows: made.rows,
-        }
+            compliances,
+        })
     }
 
     /// The constraints, in the order of the file.
@@ -196,5 +208,14 @@ impl Constraints {
         ensures axis { result.now.axis < 3 }
     {
         &self.rows[r as usize - 1]
+    }
+
+    /// The compliances of the rows, by their numbers.
+    #[inline]
+    pub fn compliances(&self) -> &[Iv]
+        ensures count { length result.now ≡ (constraints_of self.now).rows }
+        ensures each { (r : ℕ) → HasRow (constraints_of self.now) r → slice_index_or result.now (r - 1) zero_interval ≡ ((constraints_of self.now).numbers r).compliance }
+    {
+        self.compliances.as_slice()
     }
 }

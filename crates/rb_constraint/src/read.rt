@@ -168,5 +168,6 @@ pub fn read_constraints(alloc: Global, text: &[u8], robot: &Robot) -> Result<Con
 {
     let header = read_header(text)?;
     let made = read_lines(alloc, robot, header.rest, header.number + 1)?;
-    Ok(Constraints::of(made))
+    let constraints = Constraints::of(alloc, made)?;
+    Ok(constraints)
 }

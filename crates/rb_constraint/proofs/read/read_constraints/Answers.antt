@@ -23,7 +23,7 @@ of-requires-clause-kept c =
     file_kept c.args.robot.now c.args.text.now _ (file-says _ _ _ (c.in_ok-header.ensures.ok c.args.robot.now ∙ c.in_ok-made.ensures.gives)) c.in_ok-made.ensures.ordered
 
 pub returns-clause-ok : goal.returns-clause-ok
-returns-clause-ok c = subst (IsFile c.args.robot.now c.args.text.now) (sym c.of.ensures) (file-says _ _ _ (c.in_ok-header.ensures.ok c.args.robot.now ∙ c.in_ok-made.ensures.gives))
+returns-clause-ok c = subst (IsFile c.args.robot.now c.args.text.now) (sym c.in_ok-constraints.ensures) (file-says _ _ _ (c.in_ok-header.ensures.ok c.args.robot.now ∙ c.in_ok-made.ensures.gives))
 
 pub returns-clause-fits : goal.returns-clause-fits
-returns-clause-fits c = rows_fit c.args.robot.now c.args.text.now c.of.result (returns-clause-ok c)
+returns-clause-fits c = rows_fit c.args.robot.now c.args.text.now c.in_ok-constraints.constraints (returns-clause-ok c)
