@@ -14,10 +14,10 @@ use Rattle.rb_rnea.specs.Dynamics.{AreDynamics, unaccelerated}
 use Rattle.rb_mass.specs.Mass.{AreMass}
 use Rattle.rb_factor.specs.Steps.{interval_steps}
 use Rattle.rb_factor.specs.Factor.{HoldsDivisors, HoldsFactors}
-use Rattle.rb_factor.specs.Solve.{HoldsSolution, IsSolveRefused, RefusesSolve}
-use Rattle.rb_contact.specs.Driving.{k_rule, AreDriving, IsRightSide}
+use Rattle.rb_factor.specs.Solve.{HoldsSolution, IsReduceRefused, IsSolveRefused, RefusesSolve}
+use Rattle.rb_contact.specs.Driving.{AreDriving, IsRightSide}
 use Rattle.rb_contact.specs.Forward.{AreFactored, AreForward, IsForwardRefused}
-use Rattle.rb_contact.proofs.Stays.{dynamics_stay, factored_stays}
+use Rattle.rb_contact.proofs.Stays.{dynamics_stay, factored_stays, driving_stays}
 
 pub room_same : (tree : Tree) (u w : View) → extent_of w ≡ extent_of u → IsFor tree u → IsFor tree w
 room_same tree u w e h = record {
@@ -52,12 +52,8 @@ pub divisors_driven : (tree : Tree) (row : Row) (d : View) → AreFactored tree 
 divisors_driven tree row d h = h.factors.divisors
 
 -- the right side is k, where the columns are those of the robot
-right_is : (tree : Tree) (row : Row) (d : View) → AreFactored tree row d → IsRightSide tree d → (c : ℕ) → IsColumn (columns_of d) c → w_at d c ≡ k_at d c
+pub right_is : (tree : Tree) (row : Row) (d : View) → AreFactored tree row d → IsRightSide tree d → (c : ℕ) → IsColumn (columns_of d) c → w_at d c ≡ k_at d c
 right_is tree row d h right c there = right.each_w c (record { from = there.from; to = subst (λ (n : ℕ). c ≤ n) h.room.up.count there.to })
-
-driving_stays : (tree : Tree) (row : Row) (d w : View) → AreDriving tree row d → AreDriving tree row (record d { w = w.w; z = w.z; x = w.x })
-unfolding k_rule
-driving_stays tree row d w h = record { each_k = h.each_k }
 
 solution_is : (d w : View) → ((c : ℕ) → IsColumn (columns_of d) c → w_at d c ≡ k_at d c) → HoldsSolution d (record d { w = w.w; z = w.z; x = w.x })
     → HoldsSolution (record d { w = d.k; z = w.z; x = w.x }) (record d { w = w.w; z = w.z; x = w.x })
@@ -73,29 +69,32 @@ pub forward_from : (tree : Tree) (row : Row) (d w : View) → AreFactored tree r
     → HoldsSolution d w → AreForward tree row w
 forward_from tree row d w factored driving right e h = record {
   factored = subst (λ (v : View). AreFactored tree row v) (sym e) (factored_stays tree row d (record d { w = w.w; z = w.z; x = w.x }) factored);
-  driving = subst (λ (v : View). AreDriving tree row v) (sym e) (driving_stays tree row d w driving);
+  driving = subst (λ (v : View). AreDriving tree row v) (sym e) (driving_stays tree row d (record d { w = w.w; z = w.z; x = w.x }) driving);
   solution = subst (λ (v : View). HoldsSolution (record v { w = v.k }) v) (sym e)
       (solution_is d w (right_is tree row d factored right) (subst (λ (v : View). HoldsSolution d v) e h));
 }
 
 -- ---- refusals
-reduced_from : (n : ℕ) (up : ℕ → ℕ) (L : ℕ → ℕ → Interval) (r s : ℕ → Interval) (left : ℕ → ℕ → Interval) (w : ℕ → Interval)
+pub reduced_from : (n : ℕ) (up : ℕ → ℕ) (L : ℕ → ℕ → Interval) (r s : ℕ → Interval) (left : ℕ → ℕ → Interval) (w : ℕ → Interval)
     → ((c : ℕ) → IsColumn n c → r c ≡ s c) → IsReduced interval_steps n up L r left w → IsReduced interval_steps n up L s left w
 reduced_from n up L r s left w same h = record { first = λ c k. h.first c k ∙ same c k; result = h.result; updates = h.updates; others = h.others }
 
+pub reduction_refused : (n : ℕ) (up : ℕ → ℕ) (L : ℕ → ℕ → Interval) (r s : ℕ → Interval) (e : RowFault) → ((c : ℕ) → IsColumn n c → r c ≡ s c)
+    → IsReduceRefused n up L r e → IsReduceRefused n up L s e
+reduction_refused n up L r s e same h = record {
+  column = h.column;
+  there = h.there;
+  left = h.left;
+  until = record { first = λ c k. h.until.first c k ∙ same c k; each = h.until.each };
+  ancestor = h.ancestor;
+  is_ancestor = h.is_ancestor;
+  refused = h.refused;
+  named = h.named;
+}
+
 refused_from : (n : ℕ) (up : ℕ → ℕ) (L : ℕ → ℕ → Interval) (D r s : ℕ → Interval) (e : RowFault) → ((c : ℕ) → IsColumn n c → r c ≡ s c)
     → IsSolveRefused n up L D r e → IsSolveRefused n up L D s e
-refused_from n up L D r s e same (IsSolveRefused.by_reduce h) =
-    IsSolveRefused.by_reduce (record {
-      column = h.column;
-      there = h.there;
-      left = h.left;
-      until = record { first = λ c k. h.until.first c k ∙ same c k; each = h.until.each };
-      ancestor = h.ancestor;
-      is_ancestor = h.is_ancestor;
-      refused = h.refused;
-      named = h.named;
-    })
+refused_from n up L D r s e same (IsSolveRefused.by_reduce h) = IsSolveRefused.by_reduce (reduction_refused n up L r s e same h)
 refused_from n up L D r s e same (IsSolveRefused.by_divide left w h k) = IsSolveRefused.by_divide left w (reduced_from n up L r s left w same h) k
 refused_from n up L D r s e same (IsSolveRefused.by_substitute left w z h i k) = IsSolveRefused.by_substitute left w z (reduced_from n up L r s left w same h) i k
 

@@ -35,7 +35,7 @@ use Rattle.rb_factor.proofs.Answered.{factor_values, factor_refused}
 use Rattle.rb_factor.proofs.Reducing.{reduced, reduction_refused}
 use Rattle.rb_factor.proofs.Finding.{divided, division_refused, substituted, substitution_refused}
 use Rattle.rb_contact.specs.Driving.{driven_of}
-use Rattle.rb_contact.specs.Forward.{AreFactored, AreForward, IsForwardRefused, accelerations_in, factored_of, solved_of, forward_of, HasOneForward, ForwardMeans}
+use Rattle.rb_contact.specs.Forward.{AreFactored, AreForward, IsPreparationRefused, IsForwardRefused, accelerations_in, factored_of, solved_of, forward_of, HasOneForward, ForwardMeans}
 use Rattle.rb_contact.proofs.Sized.{sized_from}
 use Rattle.rb_contact.proofs.OneForward.{has_one_forward}
 use Rattle.rb_contact.proofs.DrivingPass.{DrivingFound, driving_found, driving_refused}
@@ -254,26 +254,29 @@ module _ (tree : Tree) (row : Row) (kept : AreBodies tree.bodies) where
   unfolding blank answer from_driven from_factored from_mass from_bias
   forward_refused e r =
       elim (then-err (run (names (rule tree bias_row) (order tree)) (order tree) blank) (λ u. from_bias u) e (sym whole ∙ r)) [
-        | inl h ↦ IsForwardRefused.in_bias (row_refused tree bias_row kept (blank_of (extent_for tree)) e (blank_for (extent_for tree)) has_room h)
+        | inl h ↦ before (IsPreparationRefused.in_bias (row_refused tree bias_row kept (blank_of (extent_for tree)) e (blank_for (extent_for tree)) has_room h))
         | inr a ↦
             let hu = bias_found a.0 a.1 in
             elim (then-err (run (naming tree) (mass_order tree) a.0) (λ m. from_mass m) e a.2) [
-              | inl h ↦ IsForwardRefused.in_mass a.0 hu.room hu.bias (mass_refused tree kept a.0 e hu.sized hu.room (sweeps_run tree kept a.0 ∙ h))
+              | inl h ↦ before (IsPreparationRefused.in_mass a.0 hu.room hu.bias (mass_refused tree kept a.0 e hu.sized hu.room (sweeps_run tree kept a.0 ∙ h)))
               | inr b ↦
                   let hm = table_found a.0 b.0 hu b.1 in
                   elim (then-err (factored_of b.0) (λ f. from_factored f) e b.2) [
                     | inl h ↦
-                        IsForwardRefused.in_factors b.0 (room_same tree a.0 b.0 (ap extent_of hm.rest) hu.room) (bias_stays tree bias_row a.0 b.0 hm.rest hu.bias) hm.table
-                        (factors_not_found b.0 e hm.sized h)
+                        before (IsPreparationRefused.in_factors b.0 (room_same tree a.0 b.0 (ap extent_of hm.rest) hu.room) (bias_stays tree bias_row a.0 b.0 hm.rest hu.bias) hm.table
+                        (factors_not_found b.0 e hm.sized h))
                     | inr c ↦ refused_behind c.0 (all_factored a.0 b.0 c.0 hu hm (factors_found b.0 c.0 hm.sized c.1)) c.2
                   ]
             ]
       ]
     where
+      before : IsPreparationRefused tree row e → IsForwardRefused tree row e
+      before h = IsForwardRefused.in_preparation h
+
       refused_behind : (f : View) → Factored f → from_factored f ≡ Err e → IsForwardRefused tree row e
       refused_behind f hf q =
           elim (then-err (driven_of tree row f) (λ d. from_driven d) e q) [
-            | inl h ↦ IsForwardRefused.in_driving f hf.are (driving_refused row tree f e h)
+            | inl h ↦ before (IsPreparationRefused.in_driving f hf.are (driving_refused row tree f e h))
             | inr d ↦
                 let hd = driving_of f d.0 hf d.1 in
                 let are = factored_driven tree row f d.0 hf.are hd.rest in

@@ -8,3 +8,6 @@ pub mod RowEncloses
 pub mod OneForward
 pub mod Sized
 pub mod ForwardAnswer
+pub mod Constrained
+pub mod Contacted
+pub mod ContactEncloses

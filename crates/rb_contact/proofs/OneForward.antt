@@ -31,7 +31,7 @@ use Rattle.rb_factor.proofs.Paths.{listed_on, regular}
 use Rattle.rb_factor.proofs.OneFactor.{factor_is_one}
 use Rattle.rb_factor.proofs.OneSolve.{solve_is_one}
 use Rattle.rb_contact.specs.Driving.{k_rule, AreDriving, IsDrivingRefused}
-use Rattle.rb_contact.specs.Forward.{AreFactored, AreForward, IsForwardRefused, accelerations_in, HasOneForward}
+use Rattle.rb_contact.specs.Forward.{AreFactored, AreForward, IsPreparationRefused, IsForwardRefused, accelerations_in, HasOneForward}
 use Rattle.rb_contact.proofs.Stays.{dynamics_stay}
 use Rattle.rb_contact.proofs.RowEncloses.{ascends_for, in_order, found_in}
 
@@ -193,11 +193,14 @@ module _ (tree : Tree) (row : Row) (kept : AreBodies tree.bodies) where
   no_mass_behind : (w v : View) (e : RowFault) → AreFactored tree row w → AreDynamics tree bias_row v → IsMassRefused tree v e → ⊥
   no_mass_behind w v e h bv r = no_mass (given w h) v e (given_bias w h) h.table bv r
 
+  pub no_preparation : (w : View) (e : RowFault) → AreFactored tree row w → AreDriving tree row w → IsPreparationRefused tree row e → ⊥
+  no_preparation w e h d (IsPreparationRefused.in_bias r) = no_bias w e h.bias r
+  no_preparation w e h d (IsPreparationRefused.in_mass v room bias r) = no_mass_behind w v e h bias r
+  no_preparation w e h d (IsPreparationRefused.in_factors v room bias mass r) = no_factors w v e h room bias mass r
+  no_preparation w e h d (IsPreparationRefused.in_driving v f r) = no_driving w v e h d f r
+
   either : (w : View) (e : RowFault) → AreForward tree row w → IsForwardRefused tree row e → ⊥
-  either w e h (IsForwardRefused.in_bias r) = no_bias w e h.factored.bias r
-  either w e h (IsForwardRefused.in_mass v room bias r) = no_mass_behind w v e h.factored bias r
-  either w e h (IsForwardRefused.in_factors v room bias mass r) = no_factors w v e h.factored room bias mass r
-  either w e h (IsForwardRefused.in_driving v f r) = no_driving w v e h.factored h.driving f r
+  either w e h (IsForwardRefused.in_preparation r) = no_preparation w e h.factored h.driving r
   either w e h (IsForwardRefused.in_solution v f d r) = no_solution w v e h f d r
 
   -- ---- one refusal
@@ -224,32 +227,29 @@ module _ (tree : Tree) (row : Row) (kept : AreBodies tree.bodies) where
       (factor_is_one (columns_of u) (above u.up) (M_at u) (M_at v) (regular u.up (ascends_for tree u kept ru)) (tables_same u v ru rv bu bv mu mv)).refusal d e r
       (refused_at u v e (ups_same u v ru rv) q)
 
-  one_refusal : (d e : RowFault) → IsForwardRefused tree row d → IsForwardRefused tree row e → d ≡ e
-  one_refusal d e (IsForwardRefused.in_bias r) (IsForwardRefused.in_bias q) = (one_answer tree bias_row kept).refusal d e r q
-  one_refusal d e (IsForwardRefused.in_bias r) (IsForwardRefused.in_mass v room bias q) = absurd (no_bias v d bias r)
-  one_refusal d e (IsForwardRefused.in_bias r) (IsForwardRefused.in_factors v room bias mass q) = absurd (no_bias v d bias r)
-  one_refusal d e (IsForwardRefused.in_bias r) (IsForwardRefused.in_driving v f q) = absurd (no_bias v d f.bias r)
-  one_refusal d e (IsForwardRefused.in_bias r) (IsForwardRefused.in_solution v f k q) = absurd (no_bias v d f.bias r)
-  one_refusal d e (IsForwardRefused.in_mass u room bias r) (IsForwardRefused.in_bias q) = absurd (no_bias u e bias q)
-  one_refusal d e (IsForwardRefused.in_mass u room bias r) (IsForwardRefused.in_mass v room' bias' q) = one_mass.refusal u v d e (places_same u v bias bias') r q
-  one_refusal d e (IsForwardRefused.in_mass u room bias r) (IsForwardRefused.in_factors v room' bias' mass q) = absurd (no_mass v u d bias' mass bias r)
-  one_refusal d e (IsForwardRefused.in_mass u room bias r) (IsForwardRefused.in_driving v f q) = absurd (no_mass_behind v u d f bias r)
-  one_refusal d e (IsForwardRefused.in_mass u room bias r) (IsForwardRefused.in_solution v f k q) = absurd (no_mass_behind v u d f bias r)
-  one_refusal d e (IsForwardRefused.in_factors u room bias mass r) (IsForwardRefused.in_bias q) = absurd (no_bias u e bias q)
-  one_refusal d e (IsForwardRefused.in_factors u room bias mass r) (IsForwardRefused.in_mass v room' bias' q) = absurd (no_mass u v e bias mass bias' q)
-  one_refusal d e (IsForwardRefused.in_factors u room bias mass r) (IsForwardRefused.in_factors v room' bias' mass' q) =
+  pub one_preparation : (d e : RowFault) → IsPreparationRefused tree row d → IsPreparationRefused tree row e → d ≡ e
+  one_preparation d e (IsPreparationRefused.in_bias r) (IsPreparationRefused.in_bias q) = (one_answer tree bias_row kept).refusal d e r q
+  one_preparation d e (IsPreparationRefused.in_bias r) (IsPreparationRefused.in_mass v room bias q) = absurd (no_bias v d bias r)
+  one_preparation d e (IsPreparationRefused.in_bias r) (IsPreparationRefused.in_factors v room bias mass q) = absurd (no_bias v d bias r)
+  one_preparation d e (IsPreparationRefused.in_bias r) (IsPreparationRefused.in_driving v f q) = absurd (no_bias v d f.bias r)
+  one_preparation d e (IsPreparationRefused.in_mass u room bias r) (IsPreparationRefused.in_bias q) = absurd (no_bias u e bias q)
+  one_preparation d e (IsPreparationRefused.in_mass u room bias r) (IsPreparationRefused.in_mass v room' bias' q) = one_mass.refusal u v d e (places_same u v bias bias') r q
+  one_preparation d e (IsPreparationRefused.in_mass u room bias r) (IsPreparationRefused.in_factors v room' bias' mass q) = absurd (no_mass v u d bias' mass bias r)
+  one_preparation d e (IsPreparationRefused.in_mass u room bias r) (IsPreparationRefused.in_driving v f q) = absurd (no_mass_behind v u d f bias r)
+  one_preparation d e (IsPreparationRefused.in_factors u room bias mass r) (IsPreparationRefused.in_bias q) = absurd (no_bias u e bias q)
+  one_preparation d e (IsPreparationRefused.in_factors u room bias mass r) (IsPreparationRefused.in_mass v room' bias' q) = absurd (no_mass u v e bias mass bias' q)
+  one_preparation d e (IsPreparationRefused.in_factors u room bias mass r) (IsPreparationRefused.in_factors v room' bias' mass' q) =
       same_factor_refusal u v d e room bias mass r room' bias' mass' q
-  one_refusal d e (IsForwardRefused.in_factors u room bias mass r) (IsForwardRefused.in_driving v f q) = absurd (no_factors v u d f room bias mass r)
-  one_refusal d e (IsForwardRefused.in_factors u room bias mass r) (IsForwardRefused.in_solution v f k q) = absurd (no_factors v u d f room bias mass r)
-  one_refusal d e (IsForwardRefused.in_driving u f r) (IsForwardRefused.in_bias q) = absurd (no_bias u e f.bias q)
-  one_refusal d e (IsForwardRefused.in_driving u f r) (IsForwardRefused.in_mass v room bias q) = absurd (no_mass_behind u v e f bias q)
-  one_refusal d e (IsForwardRefused.in_driving u f r) (IsForwardRefused.in_factors v room bias mass q) = absurd (no_factors u v e f room bias mass q)
-  one_refusal d e (IsForwardRefused.in_driving u f r) (IsForwardRefused.in_driving v g q) = same_stop u v d e f g r q
-  one_refusal d e (IsForwardRefused.in_driving u f r) (IsForwardRefused.in_solution v g k q) = absurd (no_driving v u d g k f r)
-  one_refusal d e (IsForwardRefused.in_solution u f k r) (IsForwardRefused.in_bias q) = absurd (no_bias u e f.bias q)
-  one_refusal d e (IsForwardRefused.in_solution u f k r) (IsForwardRefused.in_mass v room bias q) = absurd (no_mass_behind u v e f bias q)
-  one_refusal d e (IsForwardRefused.in_solution u f k r) (IsForwardRefused.in_factors v room bias mass q) = absurd (no_factors u v e f room bias mass q)
-  one_refusal d e (IsForwardRefused.in_solution u f k r) (IsForwardRefused.in_driving v g q) = absurd (no_driving u v e f k g q)
+  one_preparation d e (IsPreparationRefused.in_factors u room bias mass r) (IsPreparationRefused.in_driving v f q) = absurd (no_factors v u d f room bias mass r)
+  one_preparation d e (IsPreparationRefused.in_driving u f r) (IsPreparationRefused.in_bias q) = absurd (no_bias u e f.bias q)
+  one_preparation d e (IsPreparationRefused.in_driving u f r) (IsPreparationRefused.in_mass v room bias q) = absurd (no_mass_behind u v e f bias q)
+  one_preparation d e (IsPreparationRefused.in_driving u f r) (IsPreparationRefused.in_factors v room bias mass q) = absurd (no_factors u v e f room bias mass q)
+  one_preparation d e (IsPreparationRefused.in_driving u f r) (IsPreparationRefused.in_driving v g q) = same_stop u v d e f g r q
+
+  one_refusal : (d e : RowFault) → IsForwardRefused tree row d → IsForwardRefused tree row e → d ≡ e
+  one_refusal d e (IsForwardRefused.in_preparation r) (IsForwardRefused.in_preparation q) = one_preparation d e r q
+  one_refusal d e (IsForwardRefused.in_preparation r) (IsForwardRefused.in_solution v g l q) = absurd (no_preparation v d g l r)
+  one_refusal d e (IsForwardRefused.in_solution u f k r) (IsForwardRefused.in_preparation q) = absurd (no_preparation u e f k q)
   one_refusal d e (IsForwardRefused.in_solution u f k r) (IsForwardRefused.in_solution v g l q) =
       (solve_of u v f g k l).refusal d e r (solve_refused_at u v f g k l e q)
 

@@ -27,7 +27,7 @@ use Rattle.rb_tree.proofs.Shapes.{mimics_fit}
 use Rattle.rb_tree.proofs.Spans.{ups_below}
 use Rattle.rb_tree.proofs.ColumnsFit.{columns_fit, parents_first}
 use Rattle.rb_tree.proofs.PlaceEncloses.{places_enclose}
-use Rattle.rb_rnea.specs.Dynamics.{unaccelerated}
+use Rattle.rb_rnea.specs.Dynamics.{unaccelerated, DynamicsLie}
 use Rattle.rb_rnea.proofs.DynamicsEnclose.{dynamics_enclose}
 use Rattle.rb_mass.specs.Encloses.{EntriesLie, MassLies, PlacesLie}
 use Rattle.rb_mass.proofs.MassEnclose.{mass_encloses}
@@ -36,8 +36,8 @@ use Rattle.rb_factor.specs.Factor.{HoldsFactors}
 use Rattle.rb_factor.specs.Laws.{NumbersLie, TableLies, AreWithin, EnclosesFactors}
 use Rattle.rb_factor.proofs.Paths.{listed_on, on_listed, regular}
 use Rattle.rb_factor.proofs.Relations.{fractions_lie, nonzero}
-use Rattle.rb_contact.specs.Driving.{k_rule}
-use Rattle.rb_contact.specs.Forward.{AreForward, ForwardLies, EnclosesForward}
+use Rattle.rb_contact.specs.Driving.{k_rule, AreDriving}
+use Rattle.rb_contact.specs.Forward.{AreFactored, AreForward, ForwardLies, EnclosesForward}
 use Rattle.rb_contact.proofs.Unaccelerated.{still, still_chosen}
 use Rattle.rb_contact.proofs.ForwardEncloses.{driving, driving_lies, accelerations_lie}
 
@@ -105,7 +105,7 @@ module _ (tree : Tree) (table : ℕ → ℕ → Frac) (w : View) (ascends : Asce
 
 -- ---- the factors, and what they find
 -- the factors that a work holds enclose those of each table within the one that stood in their place
-factors_enclose : (w : View) (mass : List Interval) → Ascends w.up → HoldsFactors (record w { packed = mass }) w → EnclosesFactors (record w { packed = mass }) w
+pub factors_enclose : (w : View) (mass : List Interval) → Ascends w.up → HoldsFactors (record w { packed = mass }) w → EnclosesFactors (record w { packed = mass }) w
 unfolding fractions_lie
 factors_enclose w mass ascends h =
     let n = columns_of w in
@@ -132,58 +132,83 @@ found_in tree row w h = record {
   substituted = h.solution.substituted;
 }
 
--- ---- a row
-module _ (tree : Tree) (row : Row) (w : View) (kept : AreBodies tree.bodies) (are : AreForward tree row w) where
+-- ---- what the factors of a row enclose
+module _ (tree : Tree) (row : Row) (w : View) (kept : AreBodies tree.bodies) (factored : AreFactored tree row w) where
   abbrev held : View
-  held = record w { packed = are.factored.mass }
+  held = record w { packed = factored.mass }
 
   abbrev columns : length w.up ≡ column_count tree.bodies
-  columns = are.factored.room.up.count
+  columns = factored.room.up.count
 
-  ascends : Ascends w.up
-  ascends = ascends_for tree w kept are.factored.room
+  pub ascends : Ascends w.up
+  ascends = ascends_for tree w kept factored.room
 
-  k_is : (c : ℕ) → IsColumn (columns_of w) c → iv_sub (at_place row.tau (c - 1)) (T_at w c) ≡ Ok (k_at w c)
+  abbrev pub robot_has : (c : ℕ) → IsColumn (columns_of w) c → HasColumn tree c
+  robot_has c there = record { from = there.from; to = omega (arith, there.to, columns) }
+
+  k_is : AreDriving tree row w → (c : ℕ) → IsColumn (columns_of w) c → iv_sub (at_place row.tau (c - 1)) (T_at w c) ≡ Ok (k_at w c)
   unfolding k_rule
-  k_is c there = told-ok _ _ _ (are.driving.each_k c (record { from = there.from; to = omega (arith, there.to, columns) }))
-
-  -- what the factors find for a right side within k
-  solution_lies : (L : ℕ → ℕ → Frac) (D right y : ℕ → Frac) → AreWithin w L D → NumbersLie (columns_of w) right (k_at w)
-      → IsFound fraction_steps (columns_of w) (above w.up) L D right y → NumbersLie (columns_of w) y (x_at w)
-  unfolding fractions_lie
-  solution_lies L D right y h lies f =
-      found_met fractions_lie (columns_of w) (above w.up) (regular w.up ascends) L (L_at w) h.factors D right y (D_at w) (k_at w) (x_at w) f (found_in tree row w are) h.diagonal lies
+  k_is driving c there = told-ok _ _ _ (driving.each_k c (robot_has c there))
 
   module _ (c : Choice) (chosen : IsChoice (brackets_of tree) (state_brackets row) c) where
-    abbrev m : Mechanism Frac
+    abbrev pub m : Mechanism Frac
     m = mechanism_of (shape_of tree) c
 
-    places : PlacesLie tree (mechanism_of (shape_of tree) c) held
+    pub places : PlacesLie tree (mechanism_of (shape_of tree) c) w
     unfolding mechanism_of
-    places i has = (places_enclose tree (unaccelerated row) w kept are.factored.bias.places).at (still c) i (still_chosen tree row c chosen) has
+    places i has = (places_enclose tree (unaccelerated row) w kept factored.bias.places).at (still c) i (still_chosen tree row c chosen) has
 
-    mass_lies : MassLies tree (mechanism_of (shape_of tree) c) held
+    pub mass_lies : MassLies tree (mechanism_of (shape_of tree) c) held
     mass_lies =
-        (mass_encloses tree held kept (record { bodies = are.factored.room.bodies; full = are.factored.room.full; up = are.factored.room.up }) are.factored.table).at row c chosen places
+        (mass_encloses tree held kept (record { bodies = factored.room.bodies; full = factored.room.full; up = factored.room.up }) factored.table).at row c chosen places
+
+    -- the bias, without accelerations of the joints
+    pub bias_lies : DynamicsLie tree (unaccelerated row) w (still c)
+    bias_lies = (dynamics_enclose tree (unaccelerated row) w kept factored.bias).at (still c) (still_chosen tree row c chosen)
 
     torque_lies : NumbersLie (columns_of w) m.torque (λ k. at_place row.tau (k - 1))
     unfolding mechanism_of state_brackets
     torque_lies k there = (chosen.columns k (record { from = there.from; to = omega (arith, there.to, columns) })).torque
 
-    forward_lies : ForwardLies tree w c
-    unfolding mechanism_of
-    forward_lies =
-        let shape = shape_of tree in
-        let bias = (dynamics_enclose tree (unaccelerated row) w kept are.factored.bias).at (still c) (still_chosen tree row c chosen) in
-        let table = mass_lies.exists.0 in
-        let lies = mass_lies.lies table mass_lies.exists.1 in
-        let right = driving_lies (columns_of w) m bias.one.solution (T_at w) (λ k. at_place row.tau (k - 1)) (k_at w)
-        (λ k there. bias.lies.torque k (record { from = there.from; to = omega (arith, there.to, columns) })) torque_lies k_is in
-        let within = accelerations_lie shape m (no_force fracs) table bias.one.solution (parents_first tree kept) (mimics_fit tree kept) (columns_fit tree kept) mass_lies.exists.1 bias.one.solves
-        (above w.up) (x_at w) (AreWithin w) (columns_of w) columns (regular w.up ascends) (sparse tree table held ascends columns lies) (λ L D h. h.pivots)
-        (λ t L D f. (factors_enclose w are.factored.mass ascends are.factored.factors).at table t L D f (on_paths tree table held ascends columns lies))
-        (λ L D y h f. solution_lies L D (driving m bias.one.solution) y h right f) in
-        record { one = within.one; lies = λ k there. within.lies k (record { from = there.from; to = omega (arith, there.to, columns) }) }
+    -- what is left of the torques
+    pub right_lies : AreDriving tree row w → NumbersLie (columns_of w) (driving m bias_lies.one.solution) (k_at w)
+    right_lies drives =
+        driving_lies (columns_of w) m bias_lies.one.solution (T_at w) (λ k. at_place row.tau (k - 1)) (k_at w)
+        (λ k there. bias_lies.lies.torque k (robot_has k there)) torque_lies (k_is drives)
+
+    -- the mass table, and its factors
+    abbrev pub table : ℕ → ℕ → Frac
+    table = mass_lies.exists.0
+
+    pub sparse_table : IsZeroOffPaths (columns_of w) (above w.up) table
+    sparse_table = sparse tree table held ascends columns (mass_lies.lies table mass_lies.exists.1)
+
+    pub table_within : TableLies (columns_of w) (above w.up) table (M_at held)
+    table_within = on_paths tree table held ascends columns (mass_lies.lies table mass_lies.exists.1)
+
+-- ---- a row
+module _ (tree : Tree) (row : Row) (w : View) (kept : AreBodies tree.bodies) (are : AreForward tree row w) where
+  -- what the factors find for a right side within k
+  solution_lies : (L : ℕ → ℕ → Frac) (D right y : ℕ → Frac) → AreWithin w L D → NumbersLie (columns_of w) right (k_at w)
+      → IsFound fraction_steps (columns_of w) (above w.up) L D right y → NumbersLie (columns_of w) y (x_at w)
+  unfolding fractions_lie
+  solution_lies L D right y h lies f =
+      found_met fractions_lie (columns_of w) (above w.up) (regular w.up (ascends tree row w kept are.factored)) L (L_at w) h.factors D right y (D_at w) (k_at w) (x_at w) f (found_in tree row w are) h.diagonal lies
+
+  forward_lies : (c : Choice) → IsChoice (brackets_of tree) (state_brackets row) c → ForwardLies tree w c
+  unfolding mechanism_of
+  forward_lies c chosen =
+      let factored = are.factored in
+      let shape = shape_of tree in
+      let up = ascends tree row w kept factored in
+      let bias = bias_lies tree row w kept factored c chosen in
+      let mass = mass_lies tree row w kept factored c chosen in
+      let mechanism : Mechanism Frac = mechanism_of (shape_of tree) c in
+      let within = accelerations_lie shape mechanism (no_force fracs) mass.exists.0 bias.one.solution (parents_first tree kept) (mimics_fit tree kept) (columns_fit tree kept) mass.exists.1 bias.one.solves
+      (above w.up) (x_at w) (AreWithin w) (columns_of w) factored.room.up.count (regular w.up up) (sparse_table tree row w kept factored c chosen) (λ L D h. h.pivots)
+      (λ t L D f. (factors_enclose w factored.mass up factored.factors).at mass.exists.0 t L D f (table_within tree row w kept factored c chosen))
+      (λ L D y h f. solution_lies L D (driving mechanism bias.one.solution) y h (right_lies tree row w kept factored c chosen are.driving) f) in
+      record { one = within.one; lies = λ k there. within.lies k (record { from = there.from; to = omega (arith, there.to, factored.room.up.count) }) }
 
 pub forward_encloses : (tree : Tree) (row : Row) (w : View) → AreBodies tree.bodies → AreForward tree row w → EnclosesForward tree row w
 forward_encloses tree row w kept are = record { at = λ c chosen. forward_lies tree row w kept are c chosen }

@@ -1,4 +1,7 @@
 -- What stays as it is where other tables of a work change.
+use Rattle.std.proofs.Common.{ℕ, List}
+use Rattle.rb_num.specs.Interval.{Interval}
+use Rattle.rb_flat.specs.Contact.{Constraints}
 use Rattle.rb_work.specs.View.{View}
 use Rattle.rb_tree.specs.Robot.{Tree}
 use Rattle.rb_tree.specs.State.{Row}
@@ -17,11 +20,34 @@ use Rattle.rb_mass.specs.Entries.{H_rule, carried_rule}
 use Rattle.rb_mass.specs.Table as Table
 use Rattle.rb_mass.specs.Table.{M_rule}
 use Rattle.rb_mass.specs.Mass.{AreMass}
+use Rattle.rb_constraint.specs.Rows.{O_rule, turn_by, K_rule, forces_by, force_by, J_rule, ways_by, way_from, at_body, leave, AreRows}
+use Rattle.rb_constraint.specs.Bias.{g_rule, difference_by, bias_by, AreBias}
+use Rattle.rb_coupling.specs.Couple.{HoldsCoupling}
+use Rattle.rb_contact.specs.Driving.{k_rule, AreDriving}
 use Rattle.rb_contact.specs.Forward.{AreFactored}
+use Rattle.rb_contact.specs.Contact.{compliances, AreConstrained, AreFree, AreForced}
 
 -- the tables behind those of inverse dynamics
 abbrev behind : View → View → View
-behind u w = record u { I = w.I; H = w.H; packed = w.packed; k = w.k; w = w.w; z = w.z; x = w.x }
+behind u w =
+    record u {
+      I = w.I;
+      H = w.H;
+      packed = w.packed;
+      k = w.k;
+      w = w.w;
+      z = w.z;
+      x = w.x;
+      O = w.O;
+      K = w.K;
+      J = w.J;
+      g = w.g;
+      Y = w.Y;
+      Z = w.Z;
+      pairs = w.pairs;
+      e = w.e;
+      lam = w.lam;
+    }
 
 pub dynamics_stay : (tree : Tree) (row : Row) (u w : View) → AreDynamics tree row u → AreDynamics tree row (behind u w)
 unfolding X_rule v_rule velocity_by c_rule turning_by a_rule acceleration_by b_rule need_by f_rule Forces.add_child Forces.join_child t_rule Torques.add_power T_rule Torques.add_follower
@@ -35,7 +61,22 @@ dynamics_stay tree row u w h = record {
 
 -- the tables behind those of the mass table
 abbrev found : View → View → View
-found u w = record u { k = w.k; w = w.w; z = w.z; x = w.x }
+found u w =
+    record u {
+      k = w.k;
+      w = w.w;
+      z = w.z;
+      x = w.x;
+      O = w.O;
+      K = w.K;
+      J = w.J;
+      g = w.g;
+      Y = w.Y;
+      Z = w.Z;
+      pairs = w.pairs;
+      e = w.e;
+      lam = w.lam;
+    }
 
 pub mass_stays : (tree : Tree) (u w : View) → AreMass tree u → AreMass tree (found u w)
 unfolding I_rule Inertias.add_child Inertias.bear H_rule carried_rule Entries.force Entries.leave M_rule Table.add_joint Table.add_column Table.add_body Table.add_pair
@@ -52,4 +93,83 @@ factored_stays tree row u w h = record {
   mass = h.mass;
   table = mass_stays tree (record u { packed = h.mass }) w h.table;
   factors = record { table = h.factors.table; are = h.factors.are; divisors = h.factors.divisors };
+}
+
+-- ---- the rows
+-- the tables behind what is left of the torques
+abbrev driven : View → View → View
+driven u w =
+    record u { w = w.w; z = w.z; x = w.x; O = w.O; K = w.K; J = w.J; g = w.g; Y = w.Y; Z = w.Z; pairs = w.pairs; e = w.e; lam = w.lam }
+
+pub driving_stays : (tree : Tree) (row : Row) (u w : View) → AreDriving tree row u → AreDriving tree row (driven u w)
+unfolding k_rule
+driving_stays tree row u w h = record { each_k = h.each_k }
+
+-- behind the table of rows
+abbrev tabled : View → View → View
+tabled u w = record u { w = w.w; z = w.z; x = w.x; g = w.g; Y = w.Y; Z = w.Z; pairs = w.pairs; e = w.e; lam = w.lam }
+
+pub rows_stay : (tree : Tree) (k : Constraints Interval) (u w : View) → AreRows tree k u → AreRows tree k (tabled u w)
+unfolding O_rule turn_by K_rule forces_by force_by J_rule ways_by way_from at_body leave
+rows_stay tree k u w h = record { at_world = h.at_world; each_O = h.each_O; each_K = h.each_K; each_J = h.each_J }
+
+-- behind their bias
+abbrev biased : View → View → View
+biased u w = record u { w = w.w; z = w.z; x = w.x; Y = w.Y; Z = w.Z; pairs = w.pairs; e = w.e; lam = w.lam }
+
+pub bias_stays : (k : Constraints Interval) (u w : View) → AreBias k u → AreBias k (biased u w)
+unfolding g_rule difference_by bias_by
+bias_stays k u w h = record { each_g = h.each_g }
+
+-- and behind their coupling
+abbrev coupled : View → View → View
+coupled u w = record u { w = w.w; z = w.z; x = w.x; e = w.e; lam = w.lam }
+
+pub coupling_stays : (mu : ℕ → Interval) (u w : View) → HoldsCoupling u u mu → HoldsCoupling (coupled u w) (coupled u w) mu
+coupling_stays mu u w h = record {
+  left = h.left;
+  alone = h.alone;
+  G = h.G;
+  table = h.table;
+  reduced = h.reduced;
+  coupled = h.coupled;
+  eliminated = h.eliminated;
+  divisors = h.divisors;
+}
+
+pub constrained_stays : (tree : Tree) (row : Row) (k : Constraints Interval) (u w : View) → AreConstrained tree row k u → AreConstrained tree row k (coupled u w)
+constrained_stays tree row k u w h = record {
+  factored = factored_stays tree row u (coupled u w) h.factored;
+  driving = driving_stays tree row u (coupled u w) h.driving;
+  count = h.count;
+  rows = rows_stay tree k u (coupled u w) h.rows;
+  bias = bias_stays k u (coupled u w) h.bias;
+  coupling = coupling_stays (compliances k) u w h.coupling;
+}
+
+-- what the factors find without forces, behind which are the sides, the forces and the accelerations
+abbrev freed : View → View → View
+freed u w = record u { x = w.x; e = w.e; lam = w.lam }
+
+pub free_stays : (tree : Tree) (row : Row) (k : Constraints Interval) (u w : View) → AreFree tree row k u → AreFree tree row k (freed u w)
+free_stays tree row k u w h = record {
+  constrained = constrained_stays tree row k u (freed u w) h.constrained;
+  reduced = record { left = h.reduced.left; is = h.reduced.is };
+  divided = h.divided;
+}
+
+pub forced_stays : (tree : Tree) (row : Row) (k : Constraints Interval) (u : View) (x : List Interval) → AreForced tree row k u → AreForced tree row k (record u { x = x })
+forced_stays tree row k u x h = record {
+  free = free_stays tree row k u (record u { x = x }) h.free;
+  sides = h.sides;
+  row_sides = record { without = h.row_sides.without; total = h.row_sides.total; are = h.row_sides.are };
+  row_forces = record {
+    left = h.row_forces.left;
+    reduced = h.row_forces.reduced;
+    divided = h.row_forces.divided;
+    part = h.row_forces.part;
+    right_reduced = h.row_forces.right_reduced;
+    right_divided = h.row_forces.right_divided;
+    forces = h.row_forces.forces;
+  };
 }

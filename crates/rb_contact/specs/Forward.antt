@@ -41,12 +41,17 @@ pub record AreForward (tree : Tree) (row : Row) (w : View) : Type 0 where
   pub solution : HoldsSolution (record w { w = w.k }) w
 
 -- ---- refusals
--- the first of the parts that is refused, where the values of those before it are there
+-- the first of the parts before a solution that is refused, where the values of those before it are there: the bias, the mass table, its factors, and what
+-- is left of the torques
+pub data IsPreparationRefused (tree : Tree) (row : Row) (e : RowFault) : Type 0 where
+  in_bias : IsRefused tree (unaccelerated row) e → IsPreparationRefused tree row e
+  in_mass : (w : View) → IsFor tree w → AreDynamics tree (unaccelerated row) w → IsMassRefused tree w e → IsPreparationRefused tree row e
+  in_factors : (w : View) → IsFor tree w → AreDynamics tree (unaccelerated row) w → AreMass tree w → RefusesFactor w e → IsPreparationRefused tree row e
+  in_driving : (w : View) → AreFactored tree row w → IsDrivingRefused tree row w e → IsPreparationRefused tree row e
+
+-- or the solution is
 pub data IsForwardRefused (tree : Tree) (row : Row) (e : RowFault) : Type 0 where
-  in_bias : IsRefused tree (unaccelerated row) e → IsForwardRefused tree row e
-  in_mass : (w : View) → IsFor tree w → AreDynamics tree (unaccelerated row) w → IsMassRefused tree w e → IsForwardRefused tree row e
-  in_factors : (w : View) → IsFor tree w → AreDynamics tree (unaccelerated row) w → AreMass tree w → RefusesFactor w e → IsForwardRefused tree row e
-  in_driving : (w : View) → AreFactored tree row w → IsDrivingRefused tree row w e → IsForwardRefused tree row e
+  in_preparation : IsPreparationRefused tree row e → IsForwardRefused tree row e
   in_solution : (w : View) → AreFactored tree row w → AreDriving tree row w → IsSolveRefused (columns_of w) (above w.up) (L_at w) (D_at w) (k_at w) e →
       IsForwardRefused tree row e
 

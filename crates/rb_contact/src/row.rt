@@ -4,7 +4,8 @@ ghost use Rattle.std.specs.Prelude.{◌≡◌, OnOk, IfErr};
 ghost use Rattle.rb_sweep.specs.Sweep.{Answers};
 ghost use Rattle.rb_tree.specs.State.{Fits};
 ghost use Rattle.rb_tree.specs.Places.{IsFor};
-ghost use Rattle.rb_contact.specs.Forward.{AreFactored, AreForward, IsForwardRefused, forward_of, accelerations_in, EnclosesForward};
+ghost use Rattle.rb_contact.specs.Driving.{AreDriving, IsRightSide};
+ghost use Rattle.rb_contact.specs.Forward.{AreFactored, AreForward, IsPreparationRefused, IsForwardRefused, forward_of, accelerations_in, EnclosesForward};
 
 use crate::driving::drive;
 use rb_factor::{factor, solve};
@@ -18,7 +19,7 @@ fn factored(robot: &Robot, state: &State, work: &mut Work) -> Result<(), RowFaul
     requires fits { Fits robot.now state.now }
     requires room { IsFor robot.now work.old }
     ensures values { OnOk result (AreFactored robot.now state.now work.new) }
-    ensures refused { IfErr result (IsForwardRefused robot.now state.now) }
+    ensures refused { IfErr result (IsPreparationRefused robot.now state.now) }
     ensures others { work.new ≡ record work.old { q = work.new.q; X = work.new.X; s = work.new.s; v = work.new.v; c = work.new.c; a = work.new.a; b = work.new.b; f = work.new.f; t = work.new.t; T = work.new.T; I = work.new.I; H = work.new.H; packed = work.new.packed } }
 {
     bias(robot, state, work)?;
@@ -26,16 +27,18 @@ fn factored(robot: &Robot, state: &State, work: &mut Work) -> Result<(), RowFaul
     factor(work)
 }
 
-// What the factors find, over a work that holds them.
-fn behind_factors(robot: &Robot, state: &State, work: &mut Work) -> Result<(), RowFault>
+// What they have to give, which is the right side too.
+pub(crate) fn prepared(robot: &Robot, state: &State, work: &mut Work) -> Result<(), RowFault>
     requires fits { Fits robot.now state.now }
-    requires factored { AreFactored robot.now state.now work.old }
-    ensures values { OnOk result (AreForward robot.now state.now work.new) }
-    ensures refused { IfErr result (IsForwardRefused robot.now state.now) }
-    ensures others { work.new ≡ record work.old { k = work.new.k; w = work.new.w; z = work.new.z; x = work.new.x } }
+    requires room { IsFor robot.now work.old }
+    ensures factored { OnOk result (AreFactored robot.now state.now work.new) }
+    ensures driving { OnOk result (AreDriving robot.now state.now work.new) }
+    ensures right { OnOk result (IsRightSide robot.now work.new) }
+    ensures refused { IfErr result (IsPreparationRefused robot.now state.now) }
+    ensures others { work.new ≡ record work.old { q = work.new.q; X = work.new.X; s = work.new.s; v = work.new.v; c = work.new.c; a = work.new.a; b = work.new.b; f = work.new.f; t = work.new.t; T = work.new.T; I = work.new.I; H = work.new.H; packed = work.new.packed; k = work.new.k; w = work.new.w } }
 {
-    drive(robot, state, work)?;
-    solve(work)
+    factored(robot, state, work)?;
+    drive(robot, state, work)
 }
 
 /// The accelerations that a row's torques give the joints at its position and speeds, under its gravity: the values `q X s v c a b f t T` of the bias,
@@ -65,6 +68,6 @@ pub fn forward(robot: &Robot, state: &State, work: &mut Work) -> Result<(), RowF
     ensures others { work.new ≡ record work.old { q = work.new.q; X = work.new.X; s = work.new.s; v = work.new.v; c = work.new.c; a = work.new.a; b = work.new.b; f = work.new.f; t = work.new.t; T = work.new.T; I = work.new.I; H = work.new.H; packed = work.new.packed; k = work.new.k; w = work.new.w; z = work.new.z; x = work.new.x } }
 {
     let _tree = robot.bodies();
-    factored(robot, state, work)?;
-    behind_factors(robot, state, work)
+    prepared(robot, state, work)?;
+    solve(work)
 }

@@ -12,7 +12,7 @@ mod Forcing
 mod Meeting
 mod Enclosing
 mod Answered
-mod Borders
-mod OneForce
-mod OneCoupling
+pub mod Borders
+pub mod OneForce
+pub mod OneCoupling
 mod Rigid

@@ -1,0 +1,63 @@
+use Rattle.std.proofs.lemmas.Result.{err_from_is_err_and, on_ok_weaker, IfErr-weaker}
+use Rattle.rb_factor.specs.Solve.{RefusesSubstitute}
+use Rattle.rb_constraint.specs.Constraints.{constraints_of}
+use Rattle.rb_contact.specs.Contact.{IsContactRefused}
+use Rattle.rb_contact.proofs.Contacted.{second_divisors, second_refused, last_refused, contact_from}
+use Rattle.rb_contact.proofs.ContactEncloses.{contact_encloses}
+use Rattle.rb_contact.proofs.contacts.contact.Goals as goal
+
+pub returns-in_err-add_row_forces-clause-refused : goal.returns-in_err-add_row_forces-clause-refused
+returns-in_err-add_row_forces-clause-refused c =
+    let tree = c.args.robot.now in
+    let row = c.args.state.now in
+    let k = constraints_of c.args.cons.now in
+    let p = err_from_is_err_and c.from_residual-in_err-add_row_forces.result c.from_residual-in_err-add_row_forces.ensures.1 in
+    rw (p.1, p.2) (IsContactRefused.in_addition c.forced.new.work c.in_ok-forced.ensures.values c.in_err-add_row_forces.ensures.refused)
+
+pub divide-requires : goal.divide-requires
+divide-requires c =
+    let tree = c.args.robot.now in
+    let row = c.args.state.now in
+    let k = constraints_of c.args.cons.now in
+    record { divisors = second_divisors tree row k c.forced.new.work c.add_row_forces.new.work c.in_ok-forced.ensures.values c.add_row_forces.ensures.others }
+
+pub returns-in_err-divide-clause-refused : goal.returns-in_err-divide-clause-refused
+returns-in_err-divide-clause-refused c =
+    let tree = c.args.robot.now in
+    let row = c.args.state.now in
+    let k = constraints_of c.args.cons.now in
+    let p = err_from_is_err_and c.from_residual-in_err-divide.result c.from_residual-in_err-divide.ensures.1 in
+    rw (p.1, p.2) (second_refused tree row k c.forced.new.work c.add_row_forces.new.work _ c.in_ok-forced.ensures.values c.add_row_forces.ensures.others
+    c.in_ok-add_row_forces.ensures.values c.in_err-divide.ensures.refused)
+
+pub returns-clause-values : goal.returns-clause-values
+returns-clause-values c =
+    let tree = c.args.robot.now in
+    let row = c.args.state.now in
+    let k = constraints_of c.args.cons.now in
+    let f = c.forced.new.work in
+    let a = c.add_row_forces.new.work in
+    let d = c.divide.new.work in
+    on_ok_weaker c.substitute.result
+    (λ h. contact_from tree row k f a d c.in_ok-forced.ensures.values c.add_row_forces.ensures.others c.in_ok-add_row_forces.ensures.values c.divide.ensures.others c.in_ok-divide.ensures.values c.substitute.new.work
+    c.substitute.ensures.others h)
+    c.substitute.ensures.values
+
+pub returns-clause-refused : goal.returns-clause-refused
+returns-clause-refused c =
+    let tree = c.args.robot.now in
+    let row = c.args.state.now in
+    let k = constraints_of c.args.cons.now in
+    let f = c.forced.new.work in
+    let a = c.add_row_forces.new.work in
+    let d = c.divide.new.work in
+    IfErr-weaker c.substitute.result (RefusesSubstitute d) (IsContactRefused tree row k)
+    (λ e h. last_refused tree row k f a d c.in_ok-forced.ensures.values c.add_row_forces.ensures.others c.in_ok-add_row_forces.ensures.values c.divide.ensures.others c.in_ok-divide.ensures.values e h)
+    c.substitute.ensures.refused
+
+pub returns-clause-encloses : goal.returns-clause-encloses
+returns-clause-encloses c =
+    let tree = c.args.robot.now in
+    let row = c.args.state.now in
+    let k = constraints_of c.args.cons.now in
+    on_ok_weaker c.substitute.result (λ h. contact_encloses tree row k c.substitute.new.work c.bodies-tree.ensures.kept c.requires.fit h) (returns-clause-values c)
