@@ -1,6 +1,7 @@
 //! Files and streams of the machine, and streams that give or take a few bytes at a time and fail once.
 ghost use Rattle.std.specs.Prelude.{Some};
 
+use crate::memory::{gives, is_read, is_refused};
 use rb_io::{Failed, FileFault, FileInputs, Inputs, Sink, StdSink, put_all, read_all};
 use std::io::{ErrorKind, Read, Write};
 use std::test::Fail;
@@ -60,17 +61,14 @@ fn a_stream_is_read_in_pieces_and_fails_once(rt: HostRuntime) -> Result<(), Fail
         fails_at: Some(5),
     };
     let mut inputs = FileInputs::with_stream(&rt, stream);
-    let mut buf = [0u8; 8];
-    assert_eq!(rt; inputs.read(&mut buf), Ok(0));
-    assert_eq!(rt; inputs.open("-"), Ok(()));
-    assert_eq!(rt; inputs.read(&mut buf), Ok(2));
-    assert_eq!(rt; &buf[..2], b"ab".as_slice());
-    assert_eq!(rt; inputs.read(&mut buf), Err(Failed));
-    assert_eq!(rt; inputs.read(&mut buf[..1]), Ok(1));
-    assert_eq!(rt; buf[0], b'c');
-    let rest = read_all(rt.alloc(), &mut inputs, "-", 4);
-    assert!(rt; rest.is_ok_and(|bytes| bytes.as_slice() == b"defg".as_slice()));
-    assert_eq!(rt; inputs.read(&mut buf), Ok(0));
+    assert!(rt; gives(&mut inputs, Ok(0), b""));
+    assert!(rt; inputs.open("-") == Ok(()));
+    assert!(rt; gives(&mut inputs, Ok(2), b"ab"));
+    assert!(rt; gives(&mut inputs, Err(Failed), b""));
+    assert!(rt; gives(&mut inputs, Ok(2), b"cd"));
+    let rest = read_all(rt.alloc(), &mut inputs, "-", 3);
+    assert!(rt; is_read(rest, b"efg"));
+    assert!(rt; gives(&mut inputs, Ok(0), b""));
     Ok(())
 }
 
@@ -82,17 +80,16 @@ fn a_hyphen_alone_names_the_stream(rt: HostRuntime) -> Result<(), Fail> {
         fails_at: None,
     };
     let mut inputs = FileInputs::with_stream(&rt, stream);
-    let mut buf = [0u8; 8];
     fs::write(&rt, "-rb_reading_test", b"file")?;
     let file = read_all(alloc, &mut inputs, "-rb_reading_test", 8);
     fs::remove_file(&rt, "-rb_reading_test")?;
-    assert!(rt; file.is_ok_and(|bytes| bytes.as_slice() == b"file".as_slice()));
+    assert!(rt; is_read(file, b"file"));
     for name in ["-rb_reading_test", "--", "", " -"] {
-        assert_eq!(rt; inputs.open(name), Err(Failed));
-        assert_eq!(rt; inputs.read(&mut buf), Ok(0));
+        assert!(rt; inputs.open(name) == Err(Failed));
+        assert!(rt; gives(&mut inputs, Ok(0), b""));
     }
     let stream = read_all(alloc, &mut inputs, "-", 8);
-    assert!(rt; stream.is_ok_and(|bytes| bytes.as_slice() == b"stream".as_slice()));
+    assert!(rt; is_read(stream, b"stream"));
     Ok(())
 }
 
@@ -102,14 +99,13 @@ fn files_are_read_by_name(rt: HostRuntime) -> Result<(), Fail> {
     let name = "rb_reading_test_input.txt";
     fs::write(&rt, name, b"two lines\nof text\n")?;
     let mut inputs = FileInputs::new(&rt);
-    let mut buf = [0u8; 8];
-    assert_eq!(rt; inputs.read(&mut buf), Ok(0));
+    assert!(rt; gives(&mut inputs, Ok(0), b""));
     let whole = read_all(alloc, &mut inputs, name, 100);
     fs::remove_file(&rt, name)?;
-    assert!(rt; whole.is_ok_and(|bytes| bytes.as_slice() == b"two lines\nof text\n".as_slice()));
+    assert!(rt; is_read(whole, b"two lines\nof text\n"));
     let missing = read_all(alloc, &mut inputs, name, 100);
-    assert!(rt; missing.is_err_and(|fault| fault == FileFault::Failed));
-    assert_eq!(rt; inputs.read(&mut buf), Ok(0));
+    assert!(rt; is_refused(missing, FileFault::Failed));
+    assert!(rt; gives(&mut inputs, Ok(0), b""));
     Ok(())
 }
 
@@ -120,10 +116,10 @@ fn a_stream_is_written_in_pieces_and_fails_once(rt: HostRuntime) -> Result<(), F
         fails_at: Some(3),
     };
     let mut sink = StdSink::new(&mut writer);
-    assert_eq!(rt; sink.write(b"abcde"), Ok(3));
-    assert_eq!(rt; sink.write(b"de"), Err(Failed));
-    assert_eq!(rt; put_all(&mut sink, b"defghij"), Ok(()));
-    assert_eq!(rt; writer.bytes.as_slice(), b"abcdefghij".as_slice());
+    assert!(rt; sink.write(b"abcde") == Ok(3));
+    assert!(rt; sink.write(b"de") == Err(Failed));
+    assert!(rt; put_all(&mut sink, b"defghij") == Ok(()));
+    assert!(rt; writer.bytes.as_slice() == b"abcdefghij".as_slice());
     Ok(())
 }
 
@@ -131,9 +127,9 @@ fn a_stream_is_written_in_pieces_and_fails_once(rt: HostRuntime) -> Result<(), F
 fn a_stream_that_takes_nothing_fails(rt: HostRuntime) -> Result<(), Fail> {
     let mut room = [0u8; 4];
     let mut sink = StdSink::new(room.as_mut_slice());
-    assert_eq!(rt; put_all(&mut sink, b"abc"), Ok(()));
-    assert_eq!(rt; put_all(&mut sink, b"de"), Err(Failed));
-    assert_eq!(rt; sink.write(b""), Ok(0));
-    assert_eq!(rt; room.as_slice(), b"abcd".as_slice());
+    assert!(rt; put_all(&mut sink, b"abc") == Ok(()));
+    assert!(rt; put_all(&mut sink, b"de") == Err(Failed));
+    assert!(rt; sink.write(b"") == Ok(0));
+    assert!(rt; room.as_slice() == b"abcd".as_slice());
     Ok(())
 }

@@ -1,6 +1,6 @@
 //! The tags of a file, and its first fault.
 use rb_tags::{
-    ElementRef, Names, TagFault, TagKind, Text, attribute_in, child_in, is_child, next_word,
+    ElementRef, Names, Tag, TagFault, TagKind, Text, attribute_in, child_in, is_child, next_word,
     read_tags,
 };
 use std::alloc::{AllocError, Global};
@@ -21,14 +21,16 @@ const LIFT_TAGS: [(&str, u64, u32); 9] = [
     ("axis", 176, 3),
 ];
 
+fn is_tag(tag: &Tag, name: &str, place: u64, depth: u32) -> bool {
+    tag.name.as_str() == name && tag.place == place && tag.depth == depth
+}
+
 #[test]
 fn lift(rt: HostRuntime) -> Result<(), Fail> {
     let tags = read_tags(rt.alloc(), LIFT).ok().ok_or("the lift is read")?;
     assert_eq!(rt; tags.as_slice().len(), 9);
     for (tag, (name, place, depth)) in tags.as_slice().iter().zip(LIFT_TAGS.iter()) {
-        assert_eq!(rt; tag.name.as_str(), *name);
-        assert_eq!(rt; tag.place, *place);
-        assert_eq!(rt; tag.depth, *depth);
+        assert!(rt; is_tag(tag, name, *place, *depth), "at {place}");
     }
     let joint = tags.as_slice().get(5).ok_or("the joint")?;
     let kind = joint.attrs.as_slice().get(1).ok_or("its second attribute")?;
@@ -67,17 +69,23 @@ const READ: [(&str, usize, &str, u64, u32); 20] = [
     ("<a><a><a/></a></a>", 3, "a", 6, 3),
 ];
 
+// Whether a file has so many tags, of which this is the last.
+fn ends_in(alloc: Global, text: &str, count: usize, name: &str, place: u64, depth: u32) -> bool {
+    let Ok(tags) = read_tags(alloc, text.as_bytes()) else {
+        return false;
+    };
+    let tags = tags.as_slice();
+    tags.len() == count && matches!(tags.last(), Some(tag) if is_tag(tag, name, place, depth))
+}
+
 #[test]
-fn read(rt: HostRuntime) -> Result<(), Fail> {
+fn read(rt: HostRuntime) {
     for (text, count, name, place, depth) in READ.iter() {
-        let tags = read_tags(rt.alloc(), text.as_bytes()).ok().ok_or(*text)?;
-        assert_eq!(rt; tags.as_slice().len(), *count, "in {text}");
-        let last = tags.as_slice().last().ok_or(*text)?;
-        assert_eq!(rt; last.name.as_str(), *name, "in {text}");
-        assert_eq!(rt; last.place, *place, "in {text}");
-        assert_eq!(rt; last.depth, *depth, "in {text}");
+        assert!(rt;
+            ends_in(rt.alloc(), text, *count, name, *place, *depth),
+            "in {text}"
+        );
     }
-    Ok(())
 }
 
 // A file of one tag, and the value of its first attribute.
@@ -103,16 +111,22 @@ const VALUES: [(&str, &str); 19] = [
     ("<a\nb\t=\r\"1\" c='2'>/</a>", "1"),
 ];
 
+fn has_value(alloc: Global, text: &str, value: &str) -> bool {
+    let Ok(tags) = read_tags(alloc, text.as_bytes()) else {
+        return false;
+    };
+    let Some(tag) = tags.as_slice().first() else {
+        return false;
+    };
+    let attrs = tag.attrs.as_slice();
+    matches!(attrs.first(), Some(attr) if attr.name.as_str() == "b" && attr.value.as_str() == value)
+}
+
 #[test]
-fn values(rt: HostRuntime) -> Result<(), Fail> {
+fn values(rt: HostRuntime) {
     for (text, value) in VALUES.iter() {
-        let tags = read_tags(rt.alloc(), text.as_bytes()).ok().ok_or(*text)?;
-        let tag = tags.as_slice().first().ok_or(*text)?;
-        let attr = tag.attrs.as_slice().first().ok_or(*text)?;
-        assert_eq!(rt; attr.name.as_str(), "b", "in {text}");
-        assert_eq!(rt; attr.value.as_str(), *value, "in {text}");
+        assert!(rt; has_value(rt.alloc(), text, value), "in {text}");
     }
-    Ok(())
 }
 
 // Values that do not fit.

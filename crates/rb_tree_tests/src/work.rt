@@ -1,7 +1,4 @@
 //! The values of all names that a work keeps, the names, and what is refused under them.
-ghost use Rattle.std.specs.Prelude.{◌≡◌, IfOk};
-ghost use Rattle.rb_work.specs.View.{extent_of};
-
 use rb_num::{Iv, NumFault};
 use rb_spatial::{Force, Mat3, Motion, Vec3};
 use rb_work::{Capitals, Name, NameKind, RowFault, Work, ascends, named, pivot};
@@ -20,89 +17,155 @@ fn chain(alloc: Global) -> Result<Vec<u32>, AllocError> {
 }
 
 // A work of the greatest size for such columns.
-fn made(alloc: Global, up: &[u32]) -> Result<Work, Fail>
-    ensures { IfOk result (λ w. extent_of w ≡ record { bodies = 256; full = 64; up = up.now; rows = 64 }) }
-{
-    ascends(up).then_some(()).ok_or("columns")?;
-    (up.len() <= 64).then_some(()).ok_or("columns")?;
+fn made(alloc: Global, up: &[u32]) -> Result<Work, Fail> {
+    if up.len() > 64 || !ascends(up) {
+        return Err(Fail::from("columns"));
+    }
     Ok(Work::new(alloc, 256, 64, up, 64)?)
 }
 
+// A work of the greatest size for a chain.
+fn made_for_chain(alloc: Global) -> Result<Work, Fail> {
+    let up = chain(alloc)?;
+    made(alloc, up.as_slice())
+}
+
+// Columns, and the length of their packed table.
+const PACKED: [(&[u32], usize); 4] = [
+    (&[0; 64], 64),
+    (&[0, 1], 3),
+    (&[0, 0], 2),
+    (&[0, 1, 1, 3], 8),
+];
+
 #[test]
 fn packed_table_is_as_long_as_all_depths(rt: HostRuntime) -> Result<(), Fail> {
-    let up = chain(rt.alloc())?;
-    assert_eq!(rt; made(rt.alloc(), up.as_slice())?.packed_len(), 2080);
-    assert_eq!(rt; made(rt.alloc(), &[0; 64])?.packed_len(), 64);
-    assert_eq!(rt; made(rt.alloc(), &[0, 1])?.packed_len(), 3);
-    assert_eq!(rt; made(rt.alloc(), &[0, 0])?.packed_len(), 2);
-    assert_eq!(rt; made(rt.alloc(), &[0, 1, 1, 3])?.packed_len(), 8);
+    for (up, length) in PACKED {
+        let work = made(rt.alloc(), up)?;
+        assert!(rt; work.packed_len() == length);
+    }
+    let work = made_for_chain(rt.alloc())?;
+    assert!(rt; work.packed_len() == 2080);
     Ok(())
+}
+
+fn keeps_entries(work: &mut Work, i: u32) -> bool {
+    if work.bodies() < i {
+        return false;
+    }
+    work.set_q(i, [A; 7]);
+    work.q(i)[6] == A && work.s(i)[5] == Iv::ZERO
+}
+
+// The last body has no speed yet.
+fn keeps_motions(work: &mut Work, motion: Motion, i: u32) -> bool {
+    if work.bodies() < i {
+        return false;
+    }
+    work.set_v(0, motion);
+    work.set_a(i, motion);
+    *work.v(0) == motion && *work.v(i) != motion && *work.a(i) == motion
+}
+
+fn keeps_forces(work: &mut Work, force: Force, i: u32) -> bool {
+    if work.bodies() < i {
+        return false;
+    }
+    work.set_pa(i, force);
+    *work.pa(i) == force
+}
+
+fn keeps_turns(work: &mut Work, row: Vec3, i: u32) -> bool {
+    if work.bodies() < i {
+        return false;
+    }
+    work.set_O(i, Mat3::new(row, row, row));
+    work.O(i).z() == row
 }
 
 #[test]
 fn bodies_are_kept(rt: HostRuntime) -> Result<(), Fail> {
     let mut work = made(rt.alloc(), &[])?;
     let one = Vec3::new(A, A, A);
-    let motion = Motion { lin: one, ang: one };
-    let force = Force { lin: one, ang: one };
-    work.set_q(256, [A; 7]);
-    work.set_v(0, motion);
-    work.set_a(256, motion);
-    work.set_pa(256, force);
-    work.set_O(256, Mat3::new(one, one, one));
-    assert_eq!(rt; work.q(256)[6], A);
-    assert_eq!(rt; work.s(256)[5], Iv::ZERO);
-    assert_eq!(rt; *work.v(0), motion);
-    assert_ne!(rt; *work.v(1), motion);
-    assert_eq!(rt; *work.a(256), motion);
-    assert_eq!(rt; *work.pa(256), force);
-    assert_eq!(rt; work.O(256).z(), one);
+    assert!(rt; keeps_entries(&mut work, 256));
+    assert!(rt; keeps_motions(&mut work, Motion { lin: one, ang: one }, 256));
+    assert!(rt; keeps_forces(&mut work, Force { lin: one, ang: one }, 256));
+    assert!(rt; keeps_turns(&mut work, one, 256));
     Ok(())
+}
+
+fn keeps_torques(work: &mut Work, c: u32) -> bool {
+    if work.columns() < c {
+        return false;
+    }
+    work.set_T(c, A);
+    work.torque(c) == A && work.k(c) == Iv::ZERO
+}
+
+fn keeps_full_columns(work: &mut Work, k: u32) -> bool {
+    if k == 0 || work.full() < k {
+        return false;
+    }
+    work.set_H(k, k, A);
+    work.H(k, k) == A && work.H(k, k - 1) == Iv::ZERO
+}
+
+// The mass table and its factors have the same places.
+fn keeps_masses(work: &mut Work) -> bool {
+    if work.columns() < 64 || !work.is_on(64, 1) {
+        return false;
+    }
+    work.set_L(64, 1, A);
+    work.L(64, 1) == A && work.mass(1, 64) == A
+}
+
+fn keeps_pivots(work: &mut Work) -> bool {
+    if work.columns() < 2 {
+        return false;
+    }
+    work.set_D(1, A);
+    work.mass(1, 1) == A && work.mass(1, 2) == Iv::ZERO && work.D(2) == Iv::ZERO
 }
 
 #[test]
 fn columns_are_kept(rt: HostRuntime) -> Result<(), Fail> {
-    let up = chain(rt.alloc())?;
-    let mut work = made(rt.alloc(), up.as_slice())?;
-    assert_eq!(rt; work.columns(), 64);
-    assert!(rt; work.is_on(64, 1));
-    work.set_T(64, A);
-    work.set_H(64, 64, A);
-    work.set_M(1, 64, A);
-    assert_eq!(rt; work.torque(64), A);
-    assert_eq!(rt; work.k(64), Iv::ZERO);
-    assert_eq!(rt; (work.H(64, 64), work.H(64, 63)), (A, Iv::ZERO));
-    assert_eq!(rt; (work.L(64, 1), work.mass(64, 1)), (A, A));
-    assert_eq!(rt; (work.D(64), work.mass(64, 2)), (Iv::ZERO, Iv::ZERO));
+    let mut work = made_for_chain(rt.alloc())?;
+    assert!(rt; keeps_torques(&mut work, 64));
+    assert!(rt; keeps_full_columns(&mut work, 64));
+    assert!(rt; keeps_masses(&mut work));
     Ok(())
 }
 
 #[test]
 fn columns_apart_have_no_mass(rt: HostRuntime) -> Result<(), Fail> {
     let mut work = made(rt.alloc(), &[0, 0])?;
-    assert_eq!(rt; work.columns(), 2);
-    work.set_D(1, A);
-    assert_eq!(rt;
-        (work.mass(1, 1), work.mass(1, 2), work.mass(2, 2)),
-        (A, Iv::ZERO, Iv::ZERO)
-    );
+    assert!(rt; keeps_pivots(&mut work));
     Ok(())
+}
+
+fn keeps_row_columns(work: &mut Work, r: u32, c: u32) -> bool {
+    if work.rows() < r || work.columns() < c {
+        return false;
+    }
+    work.set_J(r, c, A);
+    work.J(r, c) == A && work.J(r, 0) == Iv::ZERO && work.J(0, c) == Iv::ZERO
+}
+
+// The couplings of rows and their factors have the same places.
+fn keeps_rows(work: &mut Work, r: u32) -> bool {
+    if r == 0 || work.rows() < r {
+        return false;
+    }
+    work.set_C(r, A);
+    work.set_lam(r, A);
+    work.G(r, r) == A && work.l(r, r - 1) == Iv::ZERO && work.row_force(r) == A
 }
 
 #[test]
 fn rows_are_kept(rt: HostRuntime) -> Result<(), Fail> {
-    let up = chain(rt.alloc())?;
-    let mut work = made(rt.alloc(), up.as_slice())?;
-    assert_eq!(rt; work.columns(), 64);
-    work.set_J(64, 64, A);
-    work.set_C(64, A);
-    work.set_lam(64, A);
-    assert_eq!(rt;
-        (work.J(64, 64), work.J(64, 1), work.J(1, 64)),
-        (A, Iv::ZERO, Iv::ZERO)
-    );
-    assert_eq!(rt; (work.G(64, 64), work.l(64, 63)), (A, Iv::ZERO));
-    assert_eq!(rt; (work.row_force(64), work.e(64)), (A, Iv::ZERO));
+    let mut work = made_for_chain(rt.alloc())?;
+    assert!(rt; keeps_row_columns(&mut work, 64, 64));
+    assert!(rt; keeps_rows(&mut work, 64));
     Ok(())
 }
 
@@ -122,16 +185,12 @@ fn names_are_printed(rt: HostRuntime) -> Result<(), Fail> {
 #[test]
 fn refusals_bear_their_names(rt: HostRuntime) {
     let name = Name::one(NameKind::D, 1);
-    assert_eq!(rt;
-        named::<Iv>(Err(NumFault::Size), name),
-        Err(RowFault::Size { name })
-    );
-    assert_eq!(rt; named(Ok(A), name), Ok(A));
-    assert_eq!(rt;
-        pivot(Iv::ZERO, name),
-        Err(RowFault::Pivot { name, iv: Iv::ZERO })
-    );
-    assert_eq!(rt; pivot(A, name), Ok(A));
+    let size = named::<Iv>(Err(NumFault::Size), name);
+    assert!(rt; size == Err(RowFault::Size { name }));
+    assert!(rt; named(Ok(A), name) == Ok(A));
+    let zero = pivot(Iv::ZERO, name);
+    assert!(rt; zero == Err(RowFault::Pivot { name, iv: Iv::ZERO }));
+    assert!(rt; pivot(A, name) == Ok(A));
 }
 
 fn is_shared<T: Send + Sync>() {}
