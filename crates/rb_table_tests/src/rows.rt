@@ -46,8 +46,12 @@ fn told(
     if names.len() > LONG || robot.nv() < 2 {
         return None;
     }
-    let header = Header::read(alloc, robot, names).ok()?;
-    let mut state = State::new(alloc, robot).ok()?;
+    let Ok(header) = Header::read(alloc, robot, names) else {
+        return None;
+    };
+    let Ok(mut state) = State::new(alloc, robot) else {
+        return None;
+    };
     match read_under(alloc, &header, line, &mut state)? {
         Ok(()) => Some(Ok([state.v(0), state.v(1), state.tau(0)])),
         Err(fault) => Some(Err(fault)),
