@@ -1,19 +1,8 @@
 //! The bodies of groups, and refusals of groups with places counted by hand.
-use rb_srdf::read_srdf;
-use rb_tags::read_tags;
+use crate::states::robot_of_two;
 use rb_tree::{Robot, TreeFault, TreeKind, WhichFile};
-use rb_urdf::read_urdf;
 use std::alloc::Global;
 use std::test::*;
-
-// The robot of two files that the readers take, or its fault.
-fn robot_on(alloc: Global, urdf: &str, srdf: &str) -> Option<Result<Robot, TreeFault>> {
-    let urdf_tags = read_tags(alloc, urdf.as_bytes()).ok()?;
-    let urdf = read_urdf(alloc, &urdf_tags).ok()?;
-    let srdf_tags = read_tags(alloc, srdf.as_bytes()).ok()?;
-    let srdf = read_srdf(alloc, &srdf_tags).ok()?;
-    Some(Robot::build(alloc, &urdf, Some(&srdf), None))
-}
 
 // The bodies are base, upper, lower, tip and left.
 const ARM: &str =
@@ -35,15 +24,10 @@ fn is_named(robot: &Robot, k: u32, name: &str) -> bool {
 }
 
 // What stands in a group, and its bodies. The root's joint is fixed and has the name of a joint of the file; another virtual joint bears the tip.
-const GROUPS: [(&str, &[u32]); 11] = [
-    ("", &[]),
+const GROUPS: [(&str, &[u32]); 6] = [
     ("<link name='left'/><link name='base'/>", &[1, 5]),
-    ("<joint name='wrist'/><joint name='side'/>", &[4, 5]),
     ("<chain base_link='base' tip_link='tip'/>", &[2, 3, 4]),
-    ("<chain base_link='upper' tip_link='tip'/>", &[3, 4]),
     ("<chain base_link='upper' tip_link='left'/>", &[5]),
-    ("<chain base_link='lower' tip_link='lower'/>", &[]),
-    ("<chain base_link='base' tip_link='base'/>", &[]),
     (
         "<link name='tip'/><chain base_link='lower' tip_link='tip'/><joint name='wrist'/>",
         &[4],
@@ -59,28 +43,11 @@ fn items_give_bodies(rt: HostRuntime) -> Result<(), Fail> {
         let text = format!(in alloc;
             "<robot name='arm'><group name='g'>{items}</group><virtual_joint name='shoulder' type='fixed' child_link='base'/><virtual_joint name='grasp' type='floating' child_link='tip'/></robot>"
         )?;
-        let built = robot_on(alloc, ARM, text.as_str()).ok_or("two files")?;
+        let built = robot_of_two(alloc, ARM, text.as_str(), None).ok_or("two files")?;
         let robot = built.ok().ok_or("a robot")?;
         assert!(rt; has_bodies(&robot, 0, bodies), "{items}");
         assert!(rt; is_named(&robot, 0, "g"));
     }
-    Ok(())
-}
-
-#[test]
-fn the_root_joint_gives_the_root(rt: HostRuntime) -> Result<(), Fail> {
-    let alloc = rt.alloc();
-    let text = semantics(alloc, "<group name='g'><joint name='root_joint'/></group>")?;
-    let built = robot_on(alloc, ARM, text.as_str()).ok_or("two files")?;
-    let robot = built.ok().ok_or("a robot")?;
-    assert!(rt; has_bodies(&robot, 0, &[1]));
-    let world = semantics(
-        alloc,
-        "<group name='g'><joint name='world'/></group><virtual_joint name='world' type='planar' child_link='base'/>",
-    )?;
-    let moved = robot_on(alloc, ARM, world.as_str()).ok_or("two files")?;
-    let planar = moved.ok().ok_or("a robot")?;
-    assert!(rt; has_bodies(&planar, 0, &[1]));
     Ok(())
 }
 
@@ -92,7 +59,7 @@ const HELD: &str =
 fn groups_have_the_bodies_of_those_that_they_hold(rt: HostRuntime) -> Result<(), Fail> {
     let alloc = rt.alloc();
     let text = semantics(alloc, HELD)?;
-    let built = robot_on(alloc, ARM, text.as_str()).ok_or("two files")?;
+    let built = robot_of_two(alloc, ARM, text.as_str(), None).ok_or("two files")?;
     let robot = built.ok().ok_or("a robot")?;
     assert_eq!(rt; robot.groups(), 3);
     assert!(rt; is_named(&robot, 0, "all") && has_bodies(&robot, 0, &[2, 3, 4, 5]));
@@ -102,12 +69,7 @@ fn groups_have_the_bodies_of_those_that_they_hold(rt: HostRuntime) -> Result<(),
 }
 
 // What stands in a robot, and the kind and the place of its fault. The first element is at 18.
-const FAULTS: [(&str, TreeKind, u64); 11] = [
-    (
-        "<group name='g'><link name='hand'/></group>",
-        TreeKind::UnknownName,
-        18,
-    ),
+const FAULTS: [(&str, TreeKind, u64); 5] = [
     (
         "<group name='g'><link name='elbow'/></group>",
         TreeKind::UnknownName,
@@ -119,18 +81,8 @@ const FAULTS: [(&str, TreeKind, u64); 11] = [
         18,
     ),
     (
-        "<group name='g'><chain base_link='base' tip_link='hand'/></group>",
-        TreeKind::UnknownName,
-        18,
-    ),
-    (
         "<group name='g'><chain base_link='hand' tip_link='tip'/></group>",
         TreeKind::UnknownName,
-        18,
-    ),
-    (
-        "<group name='g'><chain base_link='tip' tip_link='base'/></group>",
-        TreeKind::BadChain,
         18,
     ),
     (
@@ -139,24 +91,9 @@ const FAULTS: [(&str, TreeKind, u64); 11] = [
         18,
     ),
     (
-        "<group name='g'><chain base_link='tip' tip_link='base'/><link name='hand'/></group>",
-        TreeKind::UnknownName,
-        18,
-    ),
-    (
         "<group name='f'/><group name='g'><chain base_link='tip' tip_link='base'/></group><group name='h'><link name='hand'/></group>",
         TreeKind::BadChain,
         35,
-    ),
-    (
-        "<group name='f'><group name='g'/></group><group name='g'><link name='hand'/></group>",
-        TreeKind::UnknownName,
-        59,
-    ),
-    (
-        "<group name='g'><joint name='root_joint'/></group><virtual_joint name='world' type='fixed' child_link='base'/>",
-        TreeKind::UnknownName,
-        18,
     ),
 ];
 
@@ -171,7 +108,7 @@ fn groups_are_refused(rt: HostRuntime) -> Result<(), Fail> {
             at,
         };
         assert!(rt;
-            matches!(robot_on(alloc, ARM, text.as_str()), Some(Err(found)) if found == fault)
+            matches!(robot_of_two(alloc, ARM, text.as_str(), None), Some(Err(found)) if found == fault)
         );
     }
     Ok(())

@@ -1,8 +1,8 @@
 //! Orders and refusals over file texts, with places counted by hand.
 use crate::robots::robot_on;
 use rb_tags::RootKind;
-use rb_tree::{Body, Mimic, Robot, State, TreeFault, TreeKind, WhichFile};
-use std::alloc::{AllocError, Global};
+use rb_tree::{Robot, TreeFault, TreeKind, WhichFile};
+use std::alloc::Global;
 use std::test::Fail;
 
 const LEVEL: Option<RootKind> = Some(RootKind::Planar);
@@ -10,7 +10,7 @@ const LEVEL: Option<RootKind> = Some(RootKind::Planar);
 const FREE: Option<RootKind> = Some(RootKind::Floating);
 
 // The link of a body, the joint that bears it, and the number of its parent.
-type Stem = (&'static str, &'static str, u32);
+pub(crate) type Stem = (&'static str, &'static str, u32);
 
 // Whether this is what body `i` stands on.
 fn is_borne(robot: &Robot, i: u32, link: &str, joint: &str, parent: u32) -> bool {
@@ -22,7 +22,7 @@ fn is_borne(robot: &Robot, i: u32, link: &str, joint: &str, parent: u32) -> bool
 }
 
 // Whether these are the bodies of the robot, from body 1 on.
-fn has_stems(robot: &Robot, stems: &[Stem]) -> bool {
+pub(crate) fn has_stems(robot: &Robot, stems: &[Stem]) -> bool {
     let mut number = 0;
     for (link, joint, parent) in stems {
         if robot.bodies() <= number || !is_borne(robot, number + 1, link, joint, *parent) {
@@ -42,7 +42,13 @@ fn ends_with(alloc: Global, text: &str, count: u32, last: Stem) -> bool {
     matches!(robot_on(alloc, text, None), Some(Ok(robot)) if robot.bodies() == count && is_borne(&robot, count, link, joint, parent))
 }
 
-fn has_fault(alloc: Global, text: &str, root: Option<RootKind>, kind: TreeKind, at: u64) -> bool {
+pub(crate) fn has_fault(
+    alloc: Global,
+    text: &str,
+    root: Option<RootKind>,
+    kind: TreeKind,
+    at: u64,
+) -> bool {
     let fault = TreeFault {
         kind,
         file: WhichFile::Urdf,
@@ -51,21 +57,8 @@ fn has_fault(alloc: Global, text: &str, root: Option<RootKind>, kind: TreeKind, 
     matches!(robot_on(alloc, text, root), Some(Err(found)) if found == fault)
 }
 
-// A file, and its bodies. They come depth first and in the order of their joints. The joints of the last three have names that a root that moves
-// takes, or nearly a name of an entry.
-const ORDERS: [(&str, &[Stem]); 8] = [
-    (
-        "<robot name='r'><link name='a'/><link name='b'/><link name='c'/><joint name='j' type='prismatic'><parent link='a'/><child link='b'/></joint><joint name='k' type='revolute'><parent link='b'/><child link='c'/></joint></robot>",
-        &[("a", "root_joint", 0), ("b", "j", 1), ("c", "k", 2)],
-    ),
-    (
-        "<robot name='r'><link name='a'/><link name='b'/><link name='c'/><joint name='j' type='fixed'><parent link='a'/><child link='b'/></joint><joint name='k' type='fixed'><parent link='a'/><child link='c'/></joint></robot>",
-        &[("a", "root_joint", 0), ("b", "j", 1), ("c", "k", 1)],
-    ),
-    (
-        "<robot name='r'><link name='a'/><link name='b'/><link name='c'/><joint name='j' type='fixed'><parent link='a'/><child link='c'/></joint><joint name='k' type='fixed'><parent link='a'/><child link='b'/></joint></robot>",
-        &[("a", "root_joint", 0), ("c", "j", 1), ("b", "k", 1)],
-    ),
+// A file, and its bodies. They come depth first and in the order of their joints. The joint of the last has the name of that of a root that moves.
+const ORDERS: [(&str, &[Stem]); 3] = [
     (
         "<robot name='r'><link name='c'/><link name='b'/><link name='a'/><joint name='j' type='fixed'><parent link='b'/><child link='c'/></joint><joint name='k' type='fixed'><parent link='a'/><child link='b'/></joint></robot>",
         &[("a", "root_joint", 0), ("b", "k", 1), ("c", "j", 2)],
@@ -83,14 +76,6 @@ const ORDERS: [(&str, &[Stem]); 8] = [
         "<robot name='r'><link name='a'/><link name='b'/><joint name='root_joint' type='fixed'><parent link='a'/><child link='b'/></joint></robot>",
         &[("a", "root_joint", 0), ("b", "root_joint", 1)],
     ),
-    (
-        "<robot name='r'><link name='a'/><link name='b'/><link name='c'/><joint name='w' type='continuous'><parent link='a'/><child link='b'/></joint><joint name='w.sinus' type='revolute'><parent link='a'/><child link='c'/></joint></robot>",
-        &[("a", "root_joint", 0), ("b", "w", 1), ("c", "w.sinus", 1)],
-    ),
-    (
-        "<robot name='r'><link name='a'/><link name='b'/><joint name='root_joint.vx' type='prismatic'><parent link='a'/><child link='b'/></joint></robot>",
-        &[("a", "root_joint", 0), ("b", "root_joint.vx", 1)],
-    ),
 ];
 
 #[test]
@@ -101,14 +86,7 @@ fn bodies_have_an_order(rt: HostRuntime) {
 }
 
 // A file, the kind of its root, and the kind and the place of its fault.
-const FAULTS: [(&str, Option<RootKind>, TreeKind, u64); 13] = [
-    (
-        "<robot name='lift'><link name='base'/><link name='car'/></robot>",
-        None,
-        TreeKind::TwoRoots,
-        38,
-    ),
-    ("<robot name='none'></robot>", None, TreeKind::NoRoot, 0),
+const FAULTS: [(&str, Option<RootKind>, TreeKind, u64); 7] = [
     (
         " <robot name='r'><link name='a'/><link name='b'/><joint name='j' type='fixed'><parent link='a'/><child link='b'/></joint><joint name='k' type='fixed'><parent link='b'/><child link='a'/></joint></robot>",
         None,
@@ -140,35 +118,10 @@ const FAULTS: [(&str, Option<RootKind>, TreeKind, u64); 13] = [
         48,
     ),
     (
-        "<robot name='r'><link name='a'/><link name='b'/><joint name='root_joint' type='fixed'><parent link='a'/><child link='b'/></joint></robot>",
-        LEVEL,
-        TreeKind::RootName,
-        48,
-    ),
-    (
         "<robot name='r'><link name='a'/><link name='b'/><link name='c'/><joint name='w' type='continuous'><parent link='a'/><child link='b'/></joint><joint name='w.cos' type='revolute'><parent link='a'/><child link='c'/></joint></robot>",
         None,
         TreeKind::NameTwice,
         141,
-    ),
-    // the joint of the later body comes first in the file
-    (
-        "<robot name='r'><link name='a'/><link name='b'/><link name='c'/><joint name='w.cos' type='prismatic'><parent link='b'/><child link='c'/></joint><joint name='w' type='continuous'><parent link='a'/><child link='b'/></joint></robot>",
-        None,
-        TreeKind::NameTwice,
-        64,
-    ),
-    (
-        "<robot name='r'><link name='a'/><link name='b'/><joint name='root_joint.vx' type='prismatic'><parent link='a'/><child link='b'/></joint></robot>",
-        FREE,
-        TreeKind::NameTwice,
-        48,
-    ),
-    (
-        "<robot name='r'><link name='a'/><link name='b'/><joint name='root_joint.vx' type='prismatic'><parent link='a'/><child link='b'/></joint></robot>",
-        LEVEL,
-        TreeKind::NameTwice,
-        48,
     ),
     (
         "<robot name='r'><link name='a'/><link name='b'/><joint name='root_joint.cos' type='prismatic'><parent link='a'/><child link='b'/></joint></robot>",
@@ -185,158 +138,50 @@ fn trees_are_refused(rt: HostRuntime) {
     }
 }
 
-// A joint with the name of an entry that a planar root has.
-const COSINE: &str =
-    "<robot name='r'><link name='a'/><link name='b'/><joint name='root_joint.cos' type='prismatic'><parent link='a'/><child link='b'/></joint></robot>";
-
-#[test]
-fn a_floating_root_has_no_cosine(rt: HostRuntime) {
-    assert!(rt; matches!(robot_on(rt.alloc(), COSINE, FREE), Some(Ok(_))));
-}
-
-// A text, and the places of the elements that were asked for.
+// A file, and the places of its last link and of its last joint.
 #[derive(Drop)]
-struct Made {
+struct Star {
     text: String,
-    places: Vec<u64>,
+    link: u64,
+    joint: u64,
 }
 
-impl Made {
-    fn new(alloc: Global) -> Result<Made, AllocError> {
-        Ok(Made {
-            text: String::from_str(alloc, "<robot name=\"r\">")?,
-            places: Vec::new(alloc),
-        })
-    }
-
-    fn links(&mut self, alloc: Global, count: u32) -> Result<(), AllocError> {
-        for number in 0..count {
-            let link = format!(in alloc; "<link name=\"l{number}\"/>")?;
-            self.text.push_str(link.as_str())?;
-        }
-        Ok(())
-    }
-
-    fn joint(&mut self, alloc: Global, kind: &str, parent: u32, child: u32) -> Result<(), Fail> {
-        self.places.push(self.text.len() as u64)?;
-        let joint = format!(in alloc;
-            "<joint name=\"j{child}\" type=\"{kind}\"><parent link=\"l{parent}\"/><child link=\"l{child}\"/></joint>"
+// Links on a first one, by joints of this kind.
+fn star(alloc: Global, kind: &str, count: u32) -> Result<Star, Fail> {
+    let mut text = String::from_str(alloc, "<robot name='r'><link name='l'/>")?;
+    let (mut link, mut joint) = (0, 0);
+    for number in 0..count {
+        link = text.len() as u64;
+        let child = format!(in alloc; "<link name='l{number}'/>")?;
+        text.push_str(child.as_str())?;
+        joint = text.len() as u64;
+        let bearer = format!(in alloc;
+            "<joint name='j{number}' type='{kind}'><parent link='l'/><child link='l{number}'/></joint>"
         )?;
-        self.text.push_str(joint.as_str())?;
-        Ok(())
+        text.push_str(bearer.as_str())?;
     }
-
-    // Joints of this kind from link 0 to the links from 1 on, below this number.
-    fn star(&mut self, alloc: Global, kind: &str, links: u32) -> Result<(), Fail> {
-        for child in 1..links {
-            self.joint(alloc, kind, 0, child)?;
-        }
-        Ok(())
-    }
-
-    fn end(&mut self) -> Result<(), AllocError> {
-        self.text.push_str("</robot>")
-    }
-}
-
-fn star_of(alloc: Global, kind: &str, links: u32) -> Result<Made, Fail> {
-    let mut made = Made::new(alloc)?;
-    made.links(alloc, links)?;
-    made.star(alloc, kind, links)?;
-    made.end()?;
-    Ok(made)
+    text.push_str("</robot>")?;
+    Ok(Star { text, link, joint })
 }
 
 #[test]
 fn at_most_256_links(rt: HostRuntime) -> Result<(), Fail> {
     let alloc = rt.alloc();
-    let most = star_of(alloc, "fixed", 256)?;
-    assert!(rt; ends_with(alloc, most.text.as_str(), 256, ("l255", "j255", 1)));
-    // 16 bytes, then 10 links of 17, 90 of 18 and 156 of 19
-    let more = star_of(alloc, "fixed", 257)?;
-    assert!(rt;
-        has_fault(
-            alloc,
-            more.text.as_str(),
-            None,
-            TreeKind::TooManyLinks,
-            4770
-        )
-    );
+    let most = star(alloc, "fixed", 255)?;
+    assert!(rt; ends_with(alloc, most.text.as_str(), 256, ("l254", "j254", 1)));
+    let more = star(alloc, "fixed", 256)?;
+    let kind = TreeKind::TooManyLinks;
+    assert!(rt; has_fault(alloc, more.text.as_str(), None, kind, more.link));
     Ok(())
 }
 
 #[test]
 fn at_most_64_columns(rt: HostRuntime) -> Result<(), Fail> {
     let alloc = rt.alloc();
-    let most = star_of(alloc, "prismatic", 65)?;
-    assert!(rt; ends_with(alloc, most.text.as_str(), 65, ("l64", "j64", 1)));
-    // the first joint of the file bears the last body
-    let mut more = Made::new(alloc)?;
-    more.links(alloc, 67)?;
-    more.joint(alloc, "revolute", 65, 66)?;
-    more.star(alloc, "prismatic", 66)?;
-    more.end()?;
-    let at = more.places.last().copied().unwrap_or(0);
-    assert!(rt;
-        has_fault(
-            alloc,
-            more.text.as_str(),
-            None,
-            TreeKind::TooManyColumns,
-            at
-        )
-    );
+    let most = star(alloc, "prismatic", 64)?;
+    assert!(rt; ends_with(alloc, most.text.as_str(), 65, ("l63", "j63", 1)));
+    let more = star(alloc, "prismatic", 65)?;
+    let kind = TreeKind::TooManyColumns;
+    assert!(rt; has_fault(alloc, more.text.as_str(), None, kind, more.joint));
     Ok(())
-}
-
-#[test]
-fn the_root_has_columns_too(rt: HostRuntime) -> Result<(), Fail> {
-    let alloc = rt.alloc();
-    let more = star_of(alloc, "prismatic", 60)?;
-    let at = more.places.last().copied().unwrap_or(0);
-    assert!(rt;
-        has_fault(
-            alloc,
-            more.text.as_str(),
-            FREE,
-            TreeKind::TooManyColumns,
-            at
-        )
-    );
-    let most = star_of(alloc, "prismatic", 59)?;
-    assert!(rt; matches!(robot_on(alloc, most.text.as_str(), FREE), Some(Ok(_))));
-    Ok(())
-}
-
-#[test]
-fn faults_as_texts(rt: HostRuntime) -> Result<(), Fail> {
-    let fault = TreeFault {
-        kind: TreeKind::TwoRoots,
-        file: WhichFile::Urdf,
-        at: 38,
-    };
-    let text = format!(in rt.alloc(); "{fault}")?;
-    assert_eq!(rt; text.as_str(), "urdf: TwoRoots at 38");
-    let other = TreeFault {
-        kind: TreeKind::OtherRobot,
-        file: WhichFile::Srdf,
-        at: 1,
-    };
-    let other_text = format!(in rt.alloc(); "{other}")?;
-    assert_eq!(rt; other_text.as_str(), "srdf: OtherRobot at 1");
-    Ok(())
-}
-
-fn is_shared<T: Send + Sync>() {}
-
-#[test]
-fn types_are_shared(_rt: HostRuntime) {
-    is_shared::<Body>();
-    is_shared::<Mimic>();
-    is_shared::<Robot>();
-    is_shared::<State>();
-    is_shared::<TreeFault>();
-    is_shared::<TreeKind>();
-    is_shared::<WhichFile>();
 }

@@ -69,12 +69,6 @@ fn found(work: &Work, i: u32) -> Option<([Iv; 7], Place)> {
     }
 }
 
-// So many parts of ten thousand.
-fn parts(n: i32) -> Iv {
-    let end = i128::from(n) * (S / 10_000);
-    Iv::new(end, end)
-}
-
 fn whole(n: i32) -> Iv {
     let end = i128::from(n) * S;
     Iv::new(end, end)
@@ -115,72 +109,9 @@ fn a_planar_root_a_hinge_and_a_slider(rt: HostRuntime) -> Result<(), Fail> {
     Ok(())
 }
 
-// A half turn about y.
-#[test]
-fn a_floating_root(rt: HostRuntime) -> Result<(), Fail> {
-    let (zero, one) = (Iv::ZERO, Iv::ONE);
-    let q = [whole(4), whole(5), whole(6), zero, one, zero, zero];
-    let work = placed(rt.alloc(), BOX, Some(RootKind::Floating), q)?
-        .ok()
-        .ok_or("the place is found")?;
-    let place = Place {
-        e: Mat3::new(vector(-1, 0, 0), vector(0, 1, 0), vector(0, 0, -1)),
-        r: vector(4, 5, 6),
-    };
-    assert_eq!(rt; found(&work, 1), Some((q, place)));
-    Ok(())
-}
-
-// A fixed root, a fixed joint, and a floating one that bears body 3.
-const FLOATER: &str =
-    "<robot name='floater'><link name='a'/><link name='b'/><link name='c'/><joint name='mount' type='fixed'><parent link='a'/><child link='b'/></joint><joint name='float' type='floating'><parent link='b'/><child link='c'/></joint></robot>";
-
 // Joints of one entry, which bear the bodies 2 and 3.
 const PAIR: &str =
     "<robot name='pair'><link name='a'/><link name='b'/><link name='c'/><joint name='slider' type='prismatic'><parent link='a'/><child link='b'/></joint><joint name='hinge' type='revolute'><parent link='b'/><child link='c'/></joint></robot>";
-
-fn quaternion(x: i32, y: i32, z: i32, w: i32) -> [Iv; 7] {
-    [
-        Iv::ZERO,
-        Iv::ZERO,
-        Iv::ZERO,
-        parts(x),
-        parts(y),
-        parts(z),
-        parts(w),
-    ]
-}
-
-// Squared lengths of 0.998, 0.999, 1.001 and 1.002.
-#[test]
-fn lengths_of_quaternions(rt: HostRuntime) -> Result<(), Fail> {
-    let alloc = rt.alloc();
-    let refused = Some(RowFault::NotUnit {
-        name: Name::one(NameKind::q, 3),
-    });
-    let lengths = [
-        (quaternion(100, 300, 1300, 9900), refused),
-        (quaternion(200, 400, 1300, 9900), None),
-        (quaternion(0, 100, 300, 10_000), None),
-        (quaternion(0, 200, 400, 10_000), refused),
-    ];
-    for (q, fault) in lengths {
-        assert_eq!(rt; placed(alloc, FLOATER, None, q)?.err(), fault);
-    }
-    let root = placed(
-        alloc,
-        BOX,
-        Some(RootKind::Floating),
-        quaternion(100, 300, 1300, 9900),
-    )?;
-    assert_eq!(rt;
-        root.err(),
-        Some(RowFault::NotUnit {
-            name: Name::one(NameKind::q, 1)
-        })
-    );
-    Ok(())
-}
 
 // An angle of 8 is within the limit of an angle. A shift by 2^100 units is not within that of a product.
 #[test]
@@ -198,11 +129,15 @@ fn the_first_of_the_bodies_is_refused(rt: HostRuntime) -> Result<(), Fail> {
     let rows = [
         ([zero, whole(8), zero, zero, zero, zero, zero], None),
         ([zero, past, zero, zero, zero, zero, zero], Some(range)),
-        ([far, zero, zero, zero, zero, zero, zero], Some(size)),
         ([far, past, zero, zero, zero, zero, zero], Some(size)),
     ];
     for (q, fault) in rows {
         assert_eq!(rt; placed(alloc, PAIR, None, q)?.err(), fault);
     }
+    let unit = RowFault::NotUnit {
+        name: Name::one(NameKind::q, 1),
+    };
+    let root = placed(alloc, BOX, Some(RootKind::Floating), [zero; 7])?;
+    assert_eq!(rt; root.err(), Some(unit));
     Ok(())
 }

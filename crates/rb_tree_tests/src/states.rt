@@ -4,19 +4,24 @@ ghost use Rattle.rb_tree.specs.State.{Fits};
 use rb_num::Iv;
 use rb_spatial::Vec3;
 use rb_srdf::read_srdf;
-use rb_tags::read_tags;
+use rb_tags::{RootKind, read_tags};
 use rb_tree::{NoState, Robot, State, TreeFault, TreeKind, WhichFile};
 use rb_urdf::read_urdf;
 use std::alloc::Global;
 use std::test::*;
 
 // The robot of two files that the readers take, or its fault.
-fn robot_on(alloc: Global, urdf: &str, srdf: &str) -> Option<Result<Robot, TreeFault>> {
+pub(crate) fn robot_of_two(
+    alloc: Global,
+    urdf: &str,
+    srdf: &str,
+    root: Option<RootKind>,
+) -> Option<Result<Robot, TreeFault>> {
     let urdf_tags = read_tags(alloc, urdf.as_bytes()).ok()?;
     let urdf = read_urdf(alloc, &urdf_tags).ok()?;
     let srdf_tags = read_tags(alloc, srdf.as_bytes()).ok()?;
     let srdf = read_srdf(alloc, &srdf_tags).ok()?;
-    Some(Robot::build(alloc, &urdf, Some(&srdf), None))
+    Some(Robot::build(alloc, &urdf, Some(&srdf), root))
 }
 
 // The places are 0 for the joint `turn`, 1 for `slide`, from 2 on for `wheel`, from 4 on for `level` and from 8 on for `float`.
@@ -79,7 +84,7 @@ fn each_kind_takes_its_numbers(rt: HostRuntime) -> Result<(), Fail> {
         alloc,
         "<group_state name='home' group='g'><joint name='turn' value='0.5'/><joint name='slide' value='-2'/><joint name='wheel' value='0.5'/><joint name='level' value='1 -2 0.5'/><joint name='float' value='1 2 3 0.5 -0.5 0.5 -0.5'/></group_state>",
     )?;
-    let built = robot_on(alloc, KINDS, text.as_str()).ok_or("two files")?;
+    let built = robot_of_two(alloc, KINDS, text.as_str(), None).ok_or("two files")?;
     let robot = built.ok().ok_or("a robot")?;
     let mut state = State::new(alloc, &robot)?;
     state.set_named(&robot, b"home")?;
@@ -91,60 +96,6 @@ fn each_kind_takes_its_numbers(rt: HostRuntime) -> Result<(), Fail> {
     Ok(())
 }
 
-#[test]
-fn a_continuous_joint_takes_a_pair(rt: HostRuntime) -> Result<(), Fail> {
-    let alloc = rt.alloc();
-    let text = semantics(
-        alloc,
-        "<group_state name='home' group='g'><joint name='wheel' value='0.6 0.8'/></group_state>",
-    )?;
-    let built = robot_on(alloc, KINDS, text.as_str()).ok_or("two files")?;
-    let robot = built.ok().ok_or("a robot")?;
-    let mut state = State::new(alloc, &robot)?;
-    state.set_named(&robot, b"home")?;
-    assert!(rt; are_from(&robot, &state, 0, &[0, 0, 600, 800, 0, 0, 1000, 0]));
-    Ok(())
-}
-
-// A revolute joint takes an angle of any size; a fixed joint, one that follows another, and a virtual joint that bears no body take none.
-#[test]
-fn numbers_are_passed_over(rt: HostRuntime) -> Result<(), Fail> {
-    let alloc = rt.alloc();
-    let text = semantics(
-        alloc,
-        "<group_state name='home' group='g'><joint name='turn' value='9'/><joint name='follow' value='1 2'/><joint name='stay' value='3'/><joint name='grasp' value='9'/><joint name='root_joint' value='4'/></group_state><virtual_joint name='grasp' type='floating' child_link='a'/>",
-    )?;
-    let built = robot_on(alloc, KINDS, text.as_str()).ok_or("two files")?;
-    let robot = built.ok().ok_or("a robot")?;
-    let mut state = State::new(alloc, &robot)?;
-    state.set_named(&robot, b"home")?;
-    assert!(rt;
-        are_from(
-            &robot,
-            &state,
-            0,
-            &[9000, 0, 1000, 0, 0, 0, 1000, 0, 0, 0, 0, 0, 0, 0, 1000]
-        )
-    );
-    Ok(())
-}
-
-#[test]
-fn a_virtual_joint_bears_the_root(rt: HostRuntime) -> Result<(), Fail> {
-    let alloc = rt.alloc();
-    let text = semantics(
-        alloc,
-        "<virtual_joint name='world' type='planar' child_link='base'/><group_state name='home' group='g'><joint name='world' value='1 2 0.5'/></group_state>",
-    )?;
-    let built = robot_on(alloc, KINDS, text.as_str()).ok_or("two files")?;
-    let robot = built.ok().ok_or("a robot")?;
-    let mut state = State::new(alloc, &robot)?;
-    state.set_named(&robot, b"home")?;
-    assert!(rt; are_from(&robot, &state, 0, &[1000, 2000]));
-    assert!(rt; has_half(&robot, &state, 2));
-    Ok(())
-}
-
 // Two states of one name and a state of another.
 const TWICE: &str =
     "<group_state name='home' group='g'><joint name='turn' value='1'/><joint name='slide' value='2'/></group_state><group_state name='away' group='g'><joint name='slide' value='3'/></group_state><group_state name='home' group='h'><joint name='turn' value='4'/></group_state>";
@@ -153,72 +104,32 @@ const TWICE: &str =
 fn later_states_of_a_name_hold(rt: HostRuntime) -> Result<(), Fail> {
     let alloc = rt.alloc();
     let text = semantics(alloc, TWICE)?;
-    let built = robot_on(alloc, KINDS, text.as_str()).ok_or("two files")?;
+    let built = robot_of_two(alloc, KINDS, text.as_str(), None).ok_or("two files")?;
     let robot = built.ok().ok_or("a robot")?;
     let mut state = State::new(alloc, &robot)?;
     state.set_named(&robot, b"home")?;
     assert!(rt; are_from(&robot, &state, 0, &[4000, 2000, 1000, 0]));
     state.set_named(&robot, b"away")?;
-    assert!(rt; are_from(&robot, &state, 0, &[4000, 3000, 1000, 0]));
-    Ok(())
-}
-
-#[test]
-fn no_state_changes_nothing(rt: HostRuntime) -> Result<(), Fail> {
-    let alloc = rt.alloc();
-    let text = semantics(alloc, TWICE)?;
-    let built = robot_on(alloc, KINDS, text.as_str()).ok_or("two files")?;
-    let robot = built.ok().ok_or("a robot")?;
-    let mut state = State::new(alloc, &robot)?;
-    state.set_named(&robot, b"away")?;
-    assert!(rt; robot.has_state(b"home") && !robot.has_state(b"hom") && !robot.has_state(b""));
+    assert!(rt; robot.has_state(b"away") && !robot.has_state(b"hom"));
     assert_eq!(rt; state.set_named(&robot, b"hom"), Err(NoState));
-    assert!(rt; are_from(&robot, &state, 0, &[0, 3000, 1000, 0]));
-    let text = format!(in alloc; "{NoState}")?;
-    assert_eq!(rt; text.as_str(), "no such state");
-    Ok(())
-}
-
-#[test]
-fn a_state_takes_the_numbers_of_another(rt: HostRuntime) -> Result<(), Fail> {
-    let alloc = rt.alloc();
-    let text = semantics(alloc, TWICE)?;
-    let built = robot_on(alloc, KINDS, text.as_str()).ok_or("two files")?;
-    let robot = built.ok().ok_or("a robot")?;
-    let mut named = State::new(alloc, &robot)?;
-    named.set_named(&robot, b"home")?;
-    named.set_gravity(Vec3::new(Iv::ZERO, Iv::ONE, Iv::ZERO));
+    assert!(rt; are_from(&robot, &state, 0, &[4000, 3000, 1000, 0]));
+    state.set_gravity(Vec3::new(Iv::ZERO, Iv::ONE, Iv::ZERO));
     let mut row = State::new(alloc, &robot)?;
-    row.set_to(&named);
-    assert!(rt; are_from(&robot, &row, 0, &[4000, 2000, 1000, 0]));
+    row.set_to(&state);
+    assert!(rt; are_from(&robot, &row, 0, &[4000, 3000, 1000, 0]));
     assert_eq!(rt; row.gravity().y(), Iv::ONE);
     Ok(())
 }
 
 // What stands in a robot behind two groups, and the kind and the place of its fault. The first element is at 52.
-const FAULTS: [(&str, TreeKind, u64); 11] = [
+const FAULTS: [(&str, TreeKind, u64); 5] = [
     (
         "<group_state name='s' group='g'><joint name='a' value='0'/></group_state>",
         TreeKind::UnknownName,
         52,
     ),
     (
-        "<group_state name='s' group='g'><joint name='turn' value='0 0'/></group_state>",
-        TreeKind::StateValues,
-        52,
-    ),
-    (
         "<group_state name='s' group='g'><joint name='slide' value='0 0'/></group_state>",
-        TreeKind::StateValues,
-        52,
-    ),
-    (
-        "<group_state name='s' group='g'><joint name='wheel' value='0 0 0'/></group_state>",
-        TreeKind::StateValues,
-        52,
-    ),
-    (
-        "<group_state name='s' group='g'><joint name='level' value='0 0 1 0'/></group_state>",
         TreeKind::StateValues,
         52,
     ),
@@ -228,17 +139,7 @@ const FAULTS: [(&str, TreeKind, u64); 11] = [
         52,
     ),
     (
-        "<group_state name='s' group='g'><joint name='wheel' value='8.1'/></group_state>",
-        TreeKind::AngleRange,
-        52,
-    ),
-    (
         "<group_state name='s' group='g'><joint name='level' value='9 9 -8.1'/></group_state>",
-        TreeKind::AngleRange,
-        52,
-    ),
-    (
-        "<group_state name='s' group='g'><joint name='wheel' value='9'/><joint name='a' value='0'/></group_state>",
         TreeKind::AngleRange,
         52,
     ),
@@ -246,11 +147,6 @@ const FAULTS: [(&str, TreeKind, u64); 11] = [
         "<group_state name='s' group='g'/><group_state name='t' group='g'><joint name='float' value='1'/></group_state><group_state name='u' group='g'><joint name='a' value='0'/></group_state>",
         TreeKind::StateValues,
         85,
-    ),
-    (
-        "<group_state name='s' group='g'><joint name='root_joint' value='0'/></group_state><virtual_joint name='world' type='fixed' child_link='base'/>",
-        TreeKind::UnknownName,
-        52,
     ),
 ];
 
@@ -265,7 +161,7 @@ fn states_are_refused(rt: HostRuntime) -> Result<(), Fail> {
             at,
         };
         assert!(rt;
-            matches!(robot_on(alloc, KINDS, text.as_str()), Some(Err(found)) if found == fault),
+            matches!(robot_of_two(alloc, KINDS, text.as_str(), None), Some(Err(found)) if found == fault),
             "{inside}"
         );
     }

@@ -1,6 +1,6 @@
 //! The values of all names that a work keeps, the names, and what is refused under them.
 use rb_num::{Iv, NumFault};
-use rb_spatial::{Force, Mat3, Motion, Vec3};
+use rb_spatial::{Motion, Vec3};
 use rb_work::{Capitals, Name, NameKind, RowFault, Work, ascends, named, pivot};
 use std::alloc::{AllocError, Global};
 use std::test::*;
@@ -31,12 +31,7 @@ fn made_for_chain(alloc: Global) -> Result<Work, Fail> {
 }
 
 // Columns, and the length of their packed table.
-const PACKED: [(&[u32], usize); 4] = [
-    (&[0; 64], 64),
-    (&[0, 1], 3),
-    (&[0, 0], 2),
-    (&[0, 1, 1, 3], 8),
-];
+const PACKED: [(&[u32], usize); 2] = [(&[0; 64], 64), (&[0, 1, 1, 3], 8)];
 
 #[test]
 fn packed_table_is_as_long_as_all_depths(rt: HostRuntime) -> Result<(), Fail> {
@@ -44,8 +39,6 @@ fn packed_table_is_as_long_as_all_depths(rt: HostRuntime) -> Result<(), Fail> {
         let work = made(rt.alloc(), up)?;
         assert!(rt; work.packed_len() == length);
     }
-    let work = made_for_chain(rt.alloc())?;
-    assert!(rt; work.packed_len() == 2080);
     Ok(())
 }
 
@@ -67,30 +60,12 @@ fn keeps_motions(work: &mut Work, motion: Motion, i: u32) -> bool {
     *work.v(0) == motion && *work.v(i) != motion && *work.a(i) == motion
 }
 
-fn keeps_forces(work: &mut Work, force: Force, i: u32) -> bool {
-    if work.bodies() < i {
-        return false;
-    }
-    work.set_pa(i, force);
-    *work.pa(i) == force
-}
-
-fn keeps_turns(work: &mut Work, row: Vec3, i: u32) -> bool {
-    if work.bodies() < i {
-        return false;
-    }
-    work.set_O(i, Mat3::new(row, row, row));
-    work.O(i).z() == row
-}
-
 #[test]
 fn bodies_are_kept(rt: HostRuntime) -> Result<(), Fail> {
     let mut work = made(rt.alloc(), &[])?;
     let one = Vec3::new(A, A, A);
     assert!(rt; keeps_entries(&mut work, 256));
     assert!(rt; keeps_motions(&mut work, Motion { lin: one, ang: one }, 256));
-    assert!(rt; keeps_forces(&mut work, Force { lin: one, ang: one }, 256));
-    assert!(rt; keeps_turns(&mut work, one, 256));
     Ok(())
 }
 
@@ -102,14 +77,6 @@ fn keeps_torques(work: &mut Work, c: u32) -> bool {
     work.torque(c) == A && work.k(c) == Iv::ZERO
 }
 
-fn keeps_full_columns(work: &mut Work, k: u32) -> bool {
-    if k == 0 || work.full() < k {
-        return false;
-    }
-    work.set_H(k, k, A);
-    work.H(k, k) == A && work.H(k, k - 1) == Iv::ZERO
-}
-
 // The mass table and its factors have the same places.
 fn keeps_masses(work: &mut Work) -> bool {
     if work.columns() < 64 || !work.is_on(64, 1) {
@@ -119,27 +86,11 @@ fn keeps_masses(work: &mut Work) -> bool {
     work.L(64, 1) == A && work.mass(1, 64) == A
 }
 
-fn keeps_pivots(work: &mut Work) -> bool {
-    if work.columns() < 2 {
-        return false;
-    }
-    work.set_D(1, A);
-    work.mass(1, 1) == A && work.mass(1, 2) == Iv::ZERO && work.D(2) == Iv::ZERO
-}
-
 #[test]
 fn columns_are_kept(rt: HostRuntime) -> Result<(), Fail> {
     let mut work = made_for_chain(rt.alloc())?;
     assert!(rt; keeps_torques(&mut work, 64));
-    assert!(rt; keeps_full_columns(&mut work, 64));
     assert!(rt; keeps_masses(&mut work));
-    Ok(())
-}
-
-#[test]
-fn columns_apart_have_no_mass(rt: HostRuntime) -> Result<(), Fail> {
-    let mut work = made(rt.alloc(), &[0, 0])?;
-    assert!(rt; keeps_pivots(&mut work));
     Ok(())
 }
 
@@ -170,19 +121,6 @@ fn rows_are_kept(rt: HostRuntime) -> Result<(), Fail> {
 }
 
 #[test]
-fn names_are_printed(rt: HostRuntime) -> Result<(), Fail> {
-    let names = [
-        (Name::one(NameKind::b, 2), "b[2]"),
-        (Name::two(NameKind::L, 3, 1), "L[3.1]"),
-        (Name::one(NameKind::lam, 64), "lam[64]"),
-    ];
-    for (name, text) in names {
-        assert_eq!(rt; name.to_string(rt.alloc())?.as_str(), text);
-    }
-    Ok(())
-}
-
-#[test]
 fn refusals_bear_their_names(rt: HostRuntime) {
     let name = Name::one(NameKind::D, 1);
     let size = named::<Iv>(Err(NumFault::Size), name);
@@ -191,14 +129,4 @@ fn refusals_bear_their_names(rt: HostRuntime) {
     let zero = pivot(Iv::ZERO, name);
     assert!(rt; zero == Err(RowFault::Pivot { name, iv: Iv::ZERO }));
     assert!(rt; pivot(A, name) == Ok(A));
-}
-
-fn is_shared<T: Send + Sync>() {}
-
-#[test]
-fn types_are_shared(_rt: HostRuntime) {
-    is_shared::<Work>();
-    is_shared::<Name>();
-    is_shared::<NameKind>();
-    is_shared::<RowFault>();
 }
