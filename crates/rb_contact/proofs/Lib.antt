@@ -11,3 +11,6 @@ pub mod ForwardAnswer
 pub mod Constrained
 pub mod Contacted
 pub mod ContactEncloses
+pub mod SameMotions
+pub mod Totals
+pub mod OneContact

@@ -62,7 +62,7 @@ module _ (tree : Tree) (row : Row) (kept : AreBodies tree.bodies) where
   bias_row = unaccelerated row
 
   -- ---- what the bias gives
-  places_same : (u w : View) → AreDynamics tree bias_row u → AreDynamics tree bias_row w → SamePlaces tree u w
+  pub places_same : (u w : View) → AreDynamics tree bias_row u → AreDynamics tree bias_row w → SamePlaces tree u w
   places_same u w hu hw i there = (places.one_answer tree bias_row).places u w i hu.places hw.places there
 
   torques_same : (u w : View) → AreDynamics tree bias_row u → AreDynamics tree bias_row w → (c : ℕ) → HasColumn tree c → T_at u c ≡ T_at w c
@@ -134,17 +134,17 @@ module _ (tree : Tree) (row : Row) (kept : AreBodies tree.bodies) where
         factor_is_one (columns_of u) (above u.up) (M_at (given u hu)) (M_at (given w hw)) own_regular
         (tables_same (given u hu) (given w hw) (given_room u hu) (given_room w hw) (given_bias u hu) (given_bias w hw) hu.table hw.table)
 
-    same_factors : SameFactors (columns_of u) (above u.up) (L_at u) (L_at w)
+    pub same_factors : SameFactors (columns_of u) (above u.up) (L_at u) (L_at w)
     same_factors = one_of.factors hu.factors.table hw.factors.table (L_at u) (L_at w) (D_at u) (D_at w) hu.factors.are (factors_at u w hw.mass ups hw.factors)
 
-    same_pivots : SameNumbers (columns_of u) (D_at u) (D_at w)
+    pub same_pivots : SameNumbers (columns_of u) (D_at u) (D_at w)
     same_pivots = one_of.pivots hu.factors.table hw.factors.table (L_at u) (L_at w) (D_at u) (D_at w) hu.factors.are (factors_at u w hw.mass ups hw.factors)
 
     rules_same : (c : ℕ) → HasColumn tree c → k_rule row c u ≡ k_rule row c w
     rules_same c there = rule_reads row c u w (torques_same u w hu.bias hw.bias c there)
 
     module _ (du : AreDriving tree row u) (dw : AreDriving tree row w) where
-      same_driving : SameNumbers (columns_of u) (k_at u) (k_at w)
+      pub same_driving : SameNumbers (columns_of u) (k_at u) (k_at w)
       same_driving c there =
           let i = robot_column u hu.room c there in
           same_ok {E = RowFault} (k_at u c) (k_at w c) (sym (du.each_k c i) ∙ rules_same c i ∙ dw.each_k c i)

@@ -1,6 +1,6 @@
 -- Forward dynamics of a row under rows of constraints: the values that a work holds, what is refused first, and what the values enclose. Featherstone,
 -- Rigid Body Dynamics Algorithms, chapter 8.
-use Rattle.std.specs.Prelude.{◌≡◌, ℕ, List}
+use Rattle.std.specs.Prelude.{◌≡◌, ℕ, ◌+◌, List, map}
 use Rattle.rb_num.specs.Interval.{Interval}
 use Rattle.rb_num.specs.Fraction.{LiesIn}
 use Rattle.rb_frac.specs.Frac.{Frac, Same, fracs}
@@ -9,6 +9,7 @@ use Rattle.rb_flat.specs.Mechanism.{mechanism_of}
 use Rattle.rb_flat.specs.Dynamics.{Unknowns, HasOneSolution, InverseDynamics, unaccelerated, no_force}
 use Rattle.rb_flat.specs.Contact.{Constraints, HasRow, SameContact, SolvesContact}
 use Rattle.rb_jacobian.specs.Jacobian.{row_accelerations}
+use Rattle.rb_sweep.specs.Sweep.{upward}
 use Rattle.rb_work.specs.declared.names.RowFault.{RowFault}
 use Rattle.rb_work.specs.Path.{above}
 use Rattle.rb_work.specs.View.{View, columns_of, L_at, D_at, J_at, x_at, lam_at, g_at}
@@ -23,7 +24,7 @@ use Rattle.rb_constraint.specs.Encloses.{RowsLie}
 use Rattle.rb_coupling.specs.Couple.{HoldsCoupling, IsCoupleRefused}
 use Rattle.rb_coupling.specs.Forces.{HoldsRowSides, HoldsRowForces, HoldsAddedForces, RefusesRowSides, RefusesRowForces, RefusesAddedForces}
 use Rattle.rb_contact.specs.Driving.{AreDriving}
-use Rattle.rb_contact.specs.Forward.{AreFactored, IsPreparationRefused}
+use Rattle.rb_contact.specs.Forward.{AreFactored, IsPreparationRefused, accelerations_in}
 
 -- ---- values
 abbrev pub compliances : Constraints Interval → ℕ → Interval
@@ -78,6 +79,11 @@ pub data IsContactRefused (tree : Tree) (row : Row) (k : Constraints Interval) (
   in_substitution : (w : View) (right quotients : List Interval) → AreForced tree row k (record w { w = right; z = quotients }) →
       HoldsAddedForces (record w { w = right }) w → HoldsDivided w w → RefusesSubstitute w e → IsContactRefused tree row k e
 
+-- ---- answers
+-- the forces of the rows
+abbrev pub forces_in : Constraints Interval → View → List Interval
+forces_in k w = map (lam_at w) (upward 1 (k.rows + 1))
+
 -- ---- what they enclose
 -- the equations of motion with those of the rows have exactly one solution under the torques of the choice. The accelerations of its joints lie in x and
 -- the forces of its rows in lam; the Jacobian at its turns lies in J, and how the rows accelerate where no joint does lies in g.
@@ -92,3 +98,15 @@ pub record ContactLies (tree : Tree) (w : View) (c : Choice) (k : Constraints Fr
 -- so for each choice within the brackets of the robot and of the row, and each of the numbers of the constraints
 pub record EnclosesContact (tree : Tree) (row : Row) (list : Constraints Interval) (w : View) : Type 0 where
   pub at : (c : Choice) (k : Constraints Frac) → IsChoice (brackets_of tree) (state_brackets row) c → IsConstraintChoice list k → ContactLies tree w c k
+
+-- ---- laws
+-- there is one answer, whatever a work held: the same accelerations and forces, or one refusal, and not both
+pub record HasOneContact (tree : Tree) (row : Row) (k : Constraints Interval) : Type 0 where
+  pub accelerations : (u w : View) → AreContact tree row k u → AreContact tree row k w → accelerations_in tree u ≡ accelerations_in tree w
+  pub forces : (u w : View) → AreContact tree row k u → AreContact tree row k w → forces_in k u ≡ forces_in k w
+  pub either : (w : View) (e : RowFault) → AreContact tree row k w → IsContactRefused tree row k e → ⊥
+  pub refusal : (d e : RowFault) → IsContactRefused tree row k d → IsContactRefused tree row k e → d ≡ e
+
+-- all such values enclose the one solution of each choice
+pub record ContactEncloses (tree : Tree) (row : Row) (k : Constraints Interval) : Type 0 where
+  pub values : (w : View) → AreContact tree row k w → EnclosesContact tree row k w

@@ -10,7 +10,7 @@ mod Elimination
 mod Numbers
 mod Forcing
 mod Meeting
-mod Enclosing
+pub mod Enclosing
 mod Answered
 pub mod Borders
 pub mod OneForce
