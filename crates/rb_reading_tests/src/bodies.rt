@@ -126,12 +126,6 @@ fn refused_joints(rt: HostRuntime) {
     let nothing = three([0, 0, 0]);
     let zero = joint_of(UrdfKind::Revolute, nothing, nothing, nothing);
     assert!(rt; matches!(zero, Err(BodyFault::ZeroAxis)));
-    let spun = joint_of(UrdfKind::Continuous, nothing, nothing, nothing);
-    assert!(rt; matches!(spun, Err(BodyFault::ZeroAxis)));
-    let free = joint_of(UrdfKind::Floating, nothing, nothing, nothing);
-    assert!(rt; matches!(free, Ok((AnyJoint::Free(_), _))));
-    let still = joint_of(UrdfKind::Fixed, nothing, nothing, nothing);
-    assert!(rt; matches!(still, Ok((AnyJoint::Fixed(_), _))));
     let long = joint_of(
         UrdfKind::Prismatic,
         nothing,

@@ -6,87 +6,25 @@ use std::alloc::{AllocError, Global};
 use std::test::*;
 
 // A file, and the kind and the place of its fault.
-const FILES: [(&str, SrdfFaultKind, u64); 7] = [
-    ("<lift/>", SrdfFaultKind::NoRobot, 0),
-    ("<Robot name='r'/>", SrdfFaultKind::NoRobot, 0),
+const FILES: [(&str, SrdfFaultKind, u64); 3] = [
     ("<!-- --><robots name='r'/>", SrdfFaultKind::NoRobot, 8),
-    ("<group name='a'/>", SrdfFaultKind::NoRobot, 0),
-    ("<robot/>", SrdfFaultKind::NoName, 0),
     ("<robot name=''><group/></robot>", SrdfFaultKind::NoName, 0),
     ("<lift><robot name='r'/></lift>", SrdfFaultKind::NoRobot, 0),
 ];
 
 // What stands in a robot, and the kind and the place of its fault. The first element is at 16.
-const ELEMENTS: [(&str, SrdfFaultKind, u64); 45] = [
+const ELEMENTS: [(&str, SrdfFaultKind, u64); 12] = [
     ("<group/>", SrdfFaultKind::NoName, 16),
-    ("<group name=''/>", SrdfFaultKind::NoName, 16),
-    ("<group name='a'><link/></group>", SrdfFaultKind::NoName, 16),
-    (
-        "<group name='a'><joint name=''/></group>",
-        SrdfFaultKind::NoName,
-        16,
-    ),
     (
         "<group name='a'><chain tip_link='t'/></group>",
         SrdfFaultKind::NoName,
         16,
     ),
-    (
-        "<group name='a'><chain base_link='b' tip_link=''/></group>",
-        SrdfFaultKind::NoName,
-        16,
-    ),
-    (
-        "<group name='a'><group/></group>",
-        SrdfFaultKind::NoName,
-        16,
-    ),
     ("<group_state group='a'/>", SrdfFaultKind::NoName, 16),
-    ("<group_state name='s'/>", SrdfFaultKind::NoName, 16),
-    (
-        "<group_state name='s' group=''/>",
-        SrdfFaultKind::NoName,
-        16,
-    ),
-    (
-        "<group_state name='s' group='a'><joint value='x'/></group_state>",
-        SrdfFaultKind::NoName,
-        16,
-    ),
     (
         "<virtual_joint type='fixed' child_link='l'/>",
         SrdfFaultKind::NoName,
         16,
-    ),
-    (
-        "<virtual_joint name='v' type='fixed'/>",
-        SrdfFaultKind::NoName,
-        16,
-    ),
-    (
-        "<virtual_joint name='v' child_link='' type='x'/>",
-        SrdfFaultKind::NoName,
-        16,
-    ),
-    (
-        "<group name='a'/><group name='a'><link/></group>",
-        SrdfFaultKind::NoName,
-        33,
-    ),
-    (
-        "<group name='a'/><group name='a'/>",
-        SrdfFaultKind::NameTwice,
-        33,
-    ),
-    (
-        "<group name='a'/><group name='a'><group name='x'/></group>",
-        SrdfFaultKind::NameTwice,
-        33,
-    ),
-    (
-        "<group name='a'><group name='b'/></group><group/>",
-        SrdfFaultKind::NoName,
-        57,
     ),
     (
         "<group name='a'/><group_state name='s' group='a'/><group_state name='s' group='a'><joint name='j' value='x'/></group_state>",
@@ -94,39 +32,9 @@ const ELEMENTS: [(&str, SrdfFaultKind, u64); 45] = [
         66,
     ),
     (
-        "<group name='a'/><group_state name='s' group='a'/><group_state name='s' group='a'><joint value='0'/></group_state>",
-        SrdfFaultKind::NoName,
-        66,
-    ),
-    (
-        "<group_state name='s' group='x'/><group_state name='s' group='x'/>",
-        SrdfFaultKind::NameTwice,
-        49,
-    ),
-    (
         "<virtual_joint name='v' type='fixed' child_link='l'/><virtual_joint name='v' type='x' child_link='m'/>",
         SrdfFaultKind::NameTwice,
         69,
-    ),
-    (
-        "<virtual_joint name='v' type='fixed' child_link='l'/><virtual_joint name='v'/>",
-        SrdfFaultKind::NoName,
-        69,
-    ),
-    (
-        "<virtual_joint name='v' child_link='l'/>",
-        SrdfFaultKind::BadType,
-        16,
-    ),
-    (
-        "<virtual_joint name='v' type='' child_link='l'/>",
-        SrdfFaultKind::BadType,
-        16,
-    ),
-    (
-        "<virtual_joint name='v' type='Fixed' child_link='l'/>",
-        SrdfFaultKind::BadType,
-        16,
     ),
     (
         "<virtual_joint name='v' type='revolute' child_link='l'/>",
@@ -139,39 +47,9 @@ const ELEMENTS: [(&str, SrdfFaultKind, u64); 45] = [
         33,
     ),
     (
-        "<group name='a'/><group_state name='s' group='a'><joint name='j' value=''/></group_state>",
-        SrdfFaultKind::BadNumber,
-        33,
-    ),
-    (
-        "<group name='a'/><group_state name='s' group='a'><joint name='j' value=' \n'/></group_state>",
-        SrdfFaultKind::BadNumber,
-        33,
-    ),
-    (
         "<group name='a'/><group_state name='s' group='a'><joint name='j' value='0 1,5'/></group_state>",
         SrdfFaultKind::BadNumber,
         33,
-    ),
-    (
-        "<group name='a'/><group_state name='s' group='a'><joint name='j' value='1000000000001'/></group_state>",
-        SrdfFaultKind::BadNumber,
-        33,
-    ),
-    (
-        "<group name='a'/><group_state name='s' group='a'><joint name='j' value='0'/><joint name='k' value='x'/></group_state>",
-        SrdfFaultKind::BadNumber,
-        33,
-    ),
-    (
-        "<group_state name='s' group='x'><joint name='j' value='x'/></group_state>",
-        SrdfFaultKind::BadNumber,
-        16,
-    ),
-    (
-        "<group_state name='s' group='x'/><virtual_joint name='v' type='x' child_link='l'/>",
-        SrdfFaultKind::BadType,
-        49,
     ),
     (
         "<group_state name='s' group='x'/>",
@@ -179,44 +57,9 @@ const ELEMENTS: [(&str, SrdfFaultKind, u64); 45] = [
         16,
     ),
     (
-        "<group name='a'><group name='b'/></group>",
-        SrdfFaultKind::UnknownName,
-        16,
-    ),
-    (
         "<group name='a'><link name='b'/><joint name='b'/><group name='b'/></group><group name='c'><group name='c'/></group>",
         SrdfFaultKind::UnknownName,
         16,
-    ),
-    (
-        "<group name='a'/><group_state name='s' group='x'/><group name='b'><group name='y'/></group>",
-        SrdfFaultKind::UnknownName,
-        33,
-    ),
-    (
-        "<group name='a'><group name='A'/></group><group_state name='s' group='x'/>",
-        SrdfFaultKind::UnknownName,
-        16,
-    ),
-    (
-        "<virtual_joint name='a' type='fixed' child_link='a'/><group_state name='s' group='a'/>",
-        SrdfFaultKind::UnknownName,
-        69,
-    ),
-    (
-        "<x><group name='a'/></x><group_state name='s' group='a'/>",
-        SrdfFaultKind::UnknownName,
-        40,
-    ),
-    (
-        "<group name='a'><group name='a'/></group>",
-        SrdfFaultKind::GroupLoop,
-        16,
-    ),
-    (
-        "<group name='a'><group name='b'/></group><group name='b'><group name='c'/></group><group name='c'><group name='b'/></group>",
-        SrdfFaultKind::GroupLoop,
-        57,
     ),
     (
         "<group name='a'/><group name='b'><group name='a'/><group name='c'/></group><group name='c'><link name='c'/><group name='b'/></group><group name='d'><group name='d'/></group>",
@@ -351,29 +194,5 @@ fn virtual_joints_are_read(rt: HostRuntime) -> Result<(), Fail> {
     assert!(rt; is_virtual(&srdf, 0, "world", RootKind::Planar, "base"));
     assert!(rt; is_virtual(&srdf, 1, "bolt", RootKind::Fixed, "palm"));
     assert!(rt; is_virtual(&srdf, 2, "home", RootKind::Floating, "palm"));
-    Ok(())
-}
-
-#[test]
-fn nothing_may_be_said(rt: HostRuntime) -> Result<(), Fail> {
-    let srdf = srdf_in(
-        rt.alloc(),
-        "<?xml version='1.0'?><robot name='r'><link/></robot>",
-    )?;
-    assert_eq!(rt; srdf.place(), 21);
-    assert_eq!(rt; srdf.groups().as_slice().len(), 0);
-    assert_eq!(rt; srdf.holding_order().len(), 0);
-    assert_eq!(rt; srdf.states().as_slice().len(), 0);
-    assert_eq!(rt; srdf.virtuals().as_slice().len(), 0);
-    Ok(())
-}
-
-#[test]
-fn faults_are_told(rt: HostRuntime) -> Result<(), Fail> {
-    let text = "<robot name='r'><group name='a'><group name='a'/></group></robot>";
-    let tags = read_tags(rt.alloc(), text.as_bytes()).ok().ok_or("tags")?;
-    let fault = read_srdf(rt.alloc(), &tags).err().ok_or("a fault")?;
-    let text = format!(in rt.alloc(); "{fault}")?;
-    assert_eq!(rt; text.as_str(), "GroupLoop at 16");
     Ok(())
 }

@@ -14,8 +14,6 @@ mod numbers;
 #[cfg(test)]
 mod robots;
 #[cfg(test)]
-mod shared;
-#[cfg(test)]
 mod streams;
 #[cfg(test)]
 mod tags;

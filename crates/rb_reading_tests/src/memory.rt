@@ -56,13 +56,6 @@ fn a_name_is_read_up_to_its_limit(rt: HostRuntime) -> Result<(), Fail> {
 }
 
 #[test]
-fn faults_are_told(rt: HostRuntime) -> Result<(), Fail> {
-    let text = format!(in rt.alloc(); "{}, {}", Failed, FileFault::TooLong)?;
-    assert_eq!(rt; text.as_str(), "Failed, TooLong");
-    Ok(())
-}
-
-#[test]
 fn sinks_in_memory_fail_where_told_and_where_full(rt: HostRuntime) -> Result<(), Fail> {
     let alloc = rt.alloc();
     let mut sink = MemSink::new(alloc, 4, 3, &[2])?;

@@ -6,34 +6,17 @@ use std::alloc::Global;
 use std::test::*;
 
 // A file, and the kind and the place of its fault.
-const FILES: [(&str, UrdfFaultKind, u64); 26] = [
-    ("<lift/>", UrdfFaultKind::NoRobot, 0),
-    ("<Robot name='r'/>", UrdfFaultKind::NoRobot, 0),
+const FILES: [(&str, UrdfFaultKind, u64); 6] = [
     ("<!-- --><robots name='r'/>", UrdfFaultKind::NoRobot, 8),
-    ("<xacro:robot/>", UrdfFaultKind::NoRobot, 0),
-    ("<robot><xacro:a/></robot>", UrdfFaultKind::Xacro, 7),
     (
         "<robot name='r'><link><xacro:b/></link><xacro:c/></robot>",
         UrdfFaultKind::Xacro,
         22,
     ),
-    ("<robot><link/></robot>", UrdfFaultKind::NoName, 0),
-    ("<robot name=''/>", UrdfFaultKind::NoName, 0),
-    ("<robot name='r'><link/></robot>", UrdfFaultKind::NoName, 16),
     (
         "<robot name='r'><link name=''/></robot>",
         UrdfFaultKind::NoName,
         16,
-    ),
-    (
-        "<robot name='r'><joint/><link/></robot>",
-        UrdfFaultKind::NoName,
-        24,
-    ),
-    (
-        "<robot name='r'><link name='a'/><link name='a'/></robot>",
-        UrdfFaultKind::NameTwice,
-        32,
     ),
     (
         "<robot name='r'><link name='a'/><link name='a'><inertial><mass value='x'/></inertial></link></robot>",
@@ -41,48 +24,8 @@ const FILES: [(&str, UrdfFaultKind, u64); 26] = [
         32,
     ),
     (
-        "<robot name='r'><link name='a'><inertial><mass value='x'/></inertial></link></robot>",
-        UrdfFaultKind::BadNumber,
-        16,
-    ),
-    (
-        "<robot name='r'><link name='a'><inertial><mass value=''/></inertial></link></robot>",
-        UrdfFaultKind::BadNumber,
-        16,
-    ),
-    (
-        "<robot name='r'><link name='a'><inertial><mass value='1\n'/></inertial></link></robot>",
-        UrdfFaultKind::BadNumber,
-        16,
-    ),
-    (
-        "<robot name='r'><link name='a'><inertial><mass value='-1'/><origin rpy='0 0'/></inertial></link></robot>",
-        UrdfFaultKind::BadNumber,
-        16,
-    ),
-    (
         "<robot name='r'><link name='a'><inertial><origin xyz='1 2 3 4'/></inertial></link></robot>",
         UrdfFaultKind::BadNumber,
-        16,
-    ),
-    (
-        "<robot name='r'><link name='a'><inertial><origin xyz='1,2,3'/></inertial></link></robot>",
-        UrdfFaultKind::BadNumber,
-        16,
-    ),
-    (
-        "<robot name='r'><link name='a'><inertial><origin xyz=' '/></inertial></link></robot>",
-        UrdfFaultKind::BadNumber,
-        16,
-    ),
-    (
-        "<robot name='r'><link name='a'><inertial><mass value='-1'/><inertia izz='x'/></inertial></link></robot>",
-        UrdfFaultKind::BadNumber,
-        16,
-    ),
-    (
-        "<robot name='r'><link name='a'><inertial><mass value='-1'/></inertial></link></robot>",
-        UrdfFaultKind::NegativeMass,
         16,
     ),
     (
@@ -90,38 +33,13 @@ const FILES: [(&str, UrdfFaultKind, u64); 26] = [
         UrdfFaultKind::NegativeMass,
         32,
     ),
-    (
-        "<robot name='r'><link name='a'><inertial><mass value='-1'/></inertial></link><link/></robot>",
-        UrdfFaultKind::NegativeMass,
-        16,
-    ),
-    (
-        "<robot name='r'><joint name='j'/><link name='a'/></robot>",
-        UrdfFaultKind::BadType,
-        16,
-    ),
-    (
-        "<robot name='r'><link><link name='a'/></link></robot>",
-        UrdfFaultKind::NoName,
-        16,
-    ),
 ];
 
 // What follows the links `a` and `b` of a robot, and the kind and the place of its fault. The first joint is at 48.
-const JOINTS: [(&str, UrdfFaultKind, u64); 34] = [
-    ("<joint/>", UrdfFaultKind::NoName, 48),
-    ("<joint name='' type='x'/>", UrdfFaultKind::NoName, 48),
-    ("<joint name='j'/>", UrdfFaultKind::BadType, 48),
-    ("<joint name='j' type=''/>", UrdfFaultKind::BadType, 48),
-    ("<joint name='j' type='Fixed'/>", UrdfFaultKind::BadType, 48),
+const JOINTS: [(&str, UrdfFaultKind, u64); 10] = [
     (
         "<joint name='j' type='screw'><child link='c'/></joint>",
         UrdfFaultKind::BadType,
-        48,
-    ),
-    (
-        "<joint name='j' type='fixed'/>",
-        UrdfFaultKind::NoParent,
         48,
     ),
     (
@@ -130,28 +48,8 @@ const JOINTS: [(&str, UrdfFaultKind, u64); 34] = [
         48,
     ),
     (
-        "<joint name='j' type='fixed'><parent/><parent link='a'/></joint>",
-        UrdfFaultKind::NoParent,
-        48,
-    ),
-    (
-        "<joint name='j' type='fixed'><x><parent link='a'/></x></joint>",
-        UrdfFaultKind::NoParent,
-        48,
-    ),
-    (
-        "<joint name='j' type='fixed'><parent link='c'/></joint>",
-        UrdfFaultKind::NoChild,
-        48,
-    ),
-    (
         "<joint name='j' type='fixed'><child/><parent link='a'/></joint>",
         UrdfFaultKind::NoChild,
-        48,
-    ),
-    (
-        "<joint name='j' type='fixed'><parent link='c'/><child link='b'/><origin xyz='x'/></joint>",
-        UrdfFaultKind::UnknownLink,
         48,
     ),
     (
@@ -160,32 +58,7 @@ const JOINTS: [(&str, UrdfFaultKind, u64); 34] = [
         48,
     ),
     (
-        "<joint name='j' type='fixed'><parent link='a'/><child link=''/></joint>",
-        UrdfFaultKind::UnknownLink,
-        48,
-    ),
-    (
-        "<joint name='j' type='fixed'><parent link='a'/><child link='b'/><origin xyz='0 0'/></joint>",
-        UrdfFaultKind::BadNumber,
-        48,
-    ),
-    (
         "<joint name='j' type='fixed'><parent link='a'/><child link='b'/><mimic offset='x'/></joint>",
-        UrdfFaultKind::BadNumber,
-        48,
-    ),
-    (
-        "<joint name='j' type='revolute'><parent link='a'/><child link='b'/><axis xyz='1 0'/></joint>",
-        UrdfFaultKind::BadNumber,
-        48,
-    ),
-    (
-        "<joint name='j' type='planar'><parent link='a'/><child link='b'/><axis xyz='1 0'/></joint>",
-        UrdfFaultKind::BadNumber,
-        48,
-    ),
-    (
-        "<joint name='j' type='planar'><parent link='a'/><child link='b'/><axis xyz='1 0 0'/><mimic multiplier='x'/></joint>",
         UrdfFaultKind::BadNumber,
         48,
     ),
@@ -195,33 +68,13 @@ const JOINTS: [(&str, UrdfFaultKind, u64); 34] = [
         48,
     ),
     (
-        "<joint name='j' type='planar'><parent link='a'/><child link='b'/><axis xyz='0 0 1.0000000000001'/></joint>",
-        UrdfFaultKind::PlanarAxis,
-        48,
-    ),
-    (
         "<joint name='j' type='fixed'><parent link='a'/><child link='b'/></joint><joint name='j'/>",
         UrdfFaultKind::NameTwice,
         120,
     ),
     (
-        "<joint name='j' type='revolute'><parent link='a'/><child link='b'/><mimic/></joint>",
-        UrdfFaultKind::MimicUnknown,
-        48,
-    ),
-    (
-        "<joint name='j' type='fixed'><parent link='a'/><child link='b'/><mimic joint='a'/></joint>",
-        UrdfFaultKind::MimicUnknown,
-        48,
-    ),
-    (
         "<joint name='j' type='revolute'><parent link='a'/><child link='b'/><mimic joint=''/></joint>",
         UrdfFaultKind::MimicUnknown,
-        48,
-    ),
-    (
-        "<joint name='j' type='revolute'><parent link='a'/><child link='b'/><mimic joint='j'/></joint>",
-        UrdfFaultKind::MimicChain,
         48,
     ),
     (
@@ -230,34 +83,9 @@ const JOINTS: [(&str, UrdfFaultKind, u64); 34] = [
         48,
     ),
     (
-        "<joint name='k' type='revolute'><parent link='a'/><child link='b'/></joint><joint name='j' type='fixed'><parent link='a'/><child link='b'/><mimic joint='k'/></joint>",
-        UrdfFaultKind::MimicMaster,
-        123,
-    ),
-    (
-        "<joint name='k' type='fixed'><parent link='a'/><child link='b'/></joint><joint name='j' type='revolute'><parent link='a'/><child link='b'/><mimic joint='k'/></joint>",
-        UrdfFaultKind::MimicMaster,
-        120,
-    ),
-    (
         "<joint name='k' type='planar'><parent link='a'/><child link='b'/></joint><joint name='j' type='revolute'><parent link='a'/><child link='b'/><mimic joint='k'/></joint>",
         UrdfFaultKind::MimicMaster,
         121,
-    ),
-    (
-        "<joint name='k' type='continuous'><parent link='a'/><child link='b'/></joint><joint name='j' type='revolute'><parent link='a'/><child link='b'/><mimic joint='k'/></joint>",
-        UrdfFaultKind::MimicMaster,
-        125,
-    ),
-    (
-        "<joint name='k' type='prismatic'><parent link='a'/><child link='b'/></joint><joint name='j' type='floating'><parent link='a'/><child link='b'/><mimic joint='k'/></joint>",
-        UrdfFaultKind::MimicMaster,
-        124,
-    ),
-    (
-        "<joint name='j' type='revolute'><parent link='a'/><child link='b'/><mimic joint='k'/></joint><joint/>",
-        UrdfFaultKind::NoName,
-        141,
     ),
 ];
 
@@ -352,25 +180,6 @@ fn links_are_read(rt: HostRuntime) -> Result<(), Fail> {
     Ok(())
 }
 
-#[test]
-fn defaults_are_read(rt: HostRuntime) -> Result<(), Fail> {
-    let robot = arm(rt.alloc())?;
-    assert_eq!(rt; robot.name(), "arm");
-    let b = robot.links().as_slice().get(1).ok_or("b")?;
-    let zero = Iv::ZERO;
-    assert!(rt;
-        is_link(
-            b,
-            "b",
-            b.place,
-            zero,
-            [zero, zero, zero],
-            [zero, zero, zero, zero, zero, zero]
-        )
-    );
-    Ok(())
-}
-
 fn is_joint(
     robot: &UrdfRobot,
     number: usize,
@@ -404,28 +213,6 @@ fn joints_are_read(rt: HostRuntime) -> Result<(), Fail> {
 }
 
 #[test]
-fn mimics_have_defaults(rt: HostRuntime) -> Result<(), Fail> {
-    let text =
-        "<robot name='r'><link name='a'/><link name='b'/><joint name='k' type='prismatic'><parent link='a'/><child link='b'/></joint><joint name='j' type='prismatic'><parent link='a'/><child link='b'/><mimic joint='k'/></joint></robot>";
-    let robot = robot_in(rt.alloc(), text)?;
-    let axis = [Iv::ONE, Iv::ZERO, Iv::ZERO];
-    let mimic = UrdfMimic {
-        master: 0,
-        multiplier: Iv::ONE,
-        offset: Iv::ZERO,
-    };
-    assert!(rt; is_joint(&robot, 1, UrdfKind::Prismatic, axis, Some(mimic)));
-    Ok(())
-}
-
-// The prefix has its colon.
-#[test]
-fn other_names_are_no_xacro(rt: HostRuntime) {
-    let text = "<robot name='r'><xacrobat/><link name='a'/></robot>";
-    assert!(rt; robot_in(rt.alloc(), text).is_ok());
-}
-
-#[test]
 fn ends_are_read(rt: HostRuntime) -> Result<(), Fail> {
     let robot = arm(rt.alloc())?;
     let joint = robot.joints().as_slice().get(0).ok_or("a")?;
@@ -433,14 +220,5 @@ fn ends_are_read(rt: HostRuntime) -> Result<(), Fail> {
     assert_eq!(rt; joint.child, 0);
     assert!(rt; joint.xyz == [Iv::ZERO, Iv::ZERO, Iv::ZERO]);
     assert!(rt; joint.rpy == [Iv::ZERO, Iv::ZERO, Iv::ONE]);
-    Ok(())
-}
-
-#[test]
-fn faults_are_told(rt: HostRuntime) -> Result<(), Fail> {
-    let tags = read_tags(rt.alloc(), b"<lift/>").ok().ok_or("tags")?;
-    let fault = read_urdf(rt.alloc(), &tags).err().ok_or("a fault")?;
-    let text = format!(in rt.alloc(); "{fault}")?;
-    assert_eq!(rt; text.as_str(), "NoRobot at 0");
     Ok(())
 }

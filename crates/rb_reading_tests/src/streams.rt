@@ -73,27 +73,6 @@ fn a_stream_is_read_in_pieces_and_fails_once(rt: HostRuntime) -> Result<(), Fail
 }
 
 #[test]
-fn a_hyphen_alone_names_the_stream(rt: HostRuntime) -> Result<(), Fail> {
-    let alloc = rt.alloc();
-    let stream = SlowReader {
-        bytes: b"stream",
-        fails_at: None,
-    };
-    let mut inputs = FileInputs::with_stream(&rt, stream);
-    fs::write(&rt, "-rb_reading_test", b"file")?;
-    let file = read_all(alloc, &mut inputs, "-rb_reading_test", 8);
-    fs::remove_file(&rt, "-rb_reading_test")?;
-    assert!(rt; is_read(file, b"file"));
-    for name in ["-rb_reading_test", "--", "", " -"] {
-        assert!(rt; inputs.open(name) == Err(Failed));
-        assert!(rt; gives(&mut inputs, Ok(0), b""));
-    }
-    let stream = read_all(alloc, &mut inputs, "-", 8);
-    assert!(rt; is_read(stream, b"stream"));
-    Ok(())
-}
-
-#[test]
 fn files_are_read_by_name(rt: HostRuntime) -> Result<(), Fail> {
     let alloc = rt.alloc();
     let name = "rb_reading_test_input.txt";

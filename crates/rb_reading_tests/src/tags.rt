@@ -1,6 +1,6 @@
 //! The tags of a file, and its first fault.
 use rb_tags::{
-    ElementRef, Names, Tag, TagFault, TagKind, Text, attribute_in, child_in, is_child, next_word,
+    ElementRef, Names, Tag, TagFault, TagKind, attribute_in, child_in, is_child, next_word,
     read_tags,
 };
 use std::alloc::{AllocError, Global};
@@ -40,33 +40,15 @@ fn lift(rt: HostRuntime) -> Result<(), Fail> {
 }
 
 // A file, how many tags it has, and the name, the place and the depth of the last.
-const READ: [(&str, usize, &str, u64, u32); 20] = [
-    ("<a/>", 1, "a", 0, 1),
-    ("\u{feff}<a/>", 1, "a", 3, 1),
+const READ: [(&str, usize, &str, u64, u32); 8] = [
     ("\u{feff} \n<a></a>", 1, "a", 5, 1),
-    (
-        "<?xml version='1.0' encoding='ISO-8859-1'?><a/>",
-        1,
-        "a",
-        43,
-        1,
-    ),
-    ("<!-- <b> --><a/><!-- --><?p <c> ?>", 1, "a", 12, 1),
     ("<a><!-- <b> --><?p?><![CDATA[<c>]]><d/></a>", 2, "d", 35, 2),
-    ("<?>?><a/>", 1, "a", 5, 1),
     ("<!-->--><a/>", 1, "a", 8, 1),
-    ("<!----><a/>", 1, "a", 7, 1),
     ("<a b='>' c=\"/>\"/>", 1, "a", 0, 1),
-    ("<a\t\r\n b\n=\t'1'\r/>\n", 1, "a", 0, 1),
-    ("<a></a\n\t>", 1, "a", 0, 1),
     ("<ns:a-b.c_1é/>", 1, "ns:a-b.c_1é", 0, 1),
-    ("<1!?></1!?>", 1, "1!?", 0, 1),
     ("<a><b><c/></b><d></d></a>", 4, "d", 14, 2),
     ("<a>é<b/>x &foo; > ]]> '</a>", 2, "b", 5, 2),
-    ("<a></a> \t\r\n", 1, "a", 0, 1),
     ("<a></a><?p?>\n<!-- --> ", 1, "a", 0, 1),
-    ("<a b='' B=''/>", 1, "a", 0, 1),
-    ("<a><a><a/></a></a>", 3, "a", 6, 3),
 ];
 
 // Whether a file has so many tags, of which this is the last.
@@ -89,25 +71,16 @@ fn read(rt: HostRuntime) {
 }
 
 // A file of one tag, and the value of its first attribute.
-const VALUES: [(&str, &str); 19] = [
-    ("<a b=\"\"/>", ""),
-    ("<a b='\"'/>", "\""),
+const VALUES: [(&str, &str); 10] = [
     ("<a b=\"'>/=]]>\"/>", "'>/=]]>"),
     ("<a b=' \t\r\n '/>", " \t\r\n "),
-    ("<a b=';#x41;'/>", ";#x41;"),
     ("<a b='&amp;&lt;&gt;&quot;&apos;'/>", "&<>\"'"),
     ("<a b='1&amp;lt;2'/>", "1&lt;2"),
     ("<a b='&#65;&#x42;&#x6a;&#x4A;'/>", "ABjJ"),
-    ("<a b='&#00065;'/>", "A"),
     ("<a b='&#x00000000000000000041;'/>", "A"),
-    ("<a b='&#0;'/>", "\0"),
     ("<a b='&#8364;&#x20aC;'/>", "€€"),
-    ("<a b='&#xD7FF;'/>", "\u{d7ff}"),
-    ("<a b='&#xE000;'/>", "\u{e000}"),
-    ("<a b='&#x10FFFF;'/>", "\u{10ffff}"),
     ("<a b='&#1114111;'/>", "\u{10ffff}"),
     ("<a b='é&#233;é'/>", "ééé"),
-    ("<a b='&#38;#65;'/>", "&#65;"),
     ("<a\nb\t=\r\"1\" c='2'>/</a>", "1"),
 ];
 
@@ -130,34 +103,16 @@ fn values(rt: HostRuntime) {
 }
 
 // Values that do not fit.
-const BAD_VALUES: [&str; 27] = [
+const BAD_VALUES: [&str; 9] = [
     "<",
-    "&",
-    "&;",
     "&amp",
     "&foo;",
     "&AMP;",
-    "& amp;",
-    "&amp ;",
-    "&ampx;",
-    "&#;",
-    "&#x;",
     "&#X41;",
-    "&#xG;",
-    "&#A;",
-    "&#-1;",
-    "&#+1;",
-    "&#x+1;",
-    "&#1 ;",
     "&#xD800;",
-    "&#xDFFF;",
     "&#x110000;",
-    "&#1114112;",
-    "&#4294967361;",
     "&#x100000041;",
-    "&#18446744073709551681;",
     "&#٣;",
-    "&amp&amp;",
 ];
 
 #[test]
@@ -173,18 +128,12 @@ fn bad_values(rt: HostRuntime) -> Result<(), Fail> {
 }
 
 // A file that is not UTF-8, and the place of its fault.
-const NOT_UTF8: [(&[u8], u64); 12] = [
-    (b"\x80", 0),
+const NOT_UTF8: [(&[u8], u64); 6] = [
     (b"<a>\xff</a>", 3),
-    (b"<a b=\"\xc3\"/>", 6),
     (b"<a/>\xe2\x82", 4),
     (b"<a/>\xc0\xaf", 4),
-    (b"<a/>\xe0\x9f\xbf", 4),
     (b"<a/>\xed\xa0\x80", 4),
-    (b"<a/>\xf4\x90\x80\x80", 4),
-    (b"<a/>\xf8", 4),
     (b"\xef\xbb\xbf<a>\x80", 6),
-    (b"\xef\xbb", 0),
     (b"</b>\x80", 4),
 ];
 
@@ -199,83 +148,25 @@ fn not_utf8(rt: HostRuntime) {
 }
 
 // A file, and its first fault with the fault's place.
-const FAULTS: [(&str, TagKind, u64); 73] = [
+const FAULTS: [(&str, TagKind, u64); 19] = [
     ("", TagKind::Unclosed, 0),
-    (" \t\r\n", TagKind::Unclosed, 4),
-    ("\u{feff}", TagKind::Unclosed, 3),
-    ("<!-- c -->", TagKind::Unclosed, 10),
-    (
-        "<robot name=\"lift\"><link name=\"ba",
-        TagKind::Unclosed,
-        19,
-    ),
-    ("<a>", TagKind::Unclosed, 0),
     ("<a><b></b>", TagKind::Unclosed, 0),
-    ("<a><b>", TagKind::Unclosed, 3),
-    ("<a", TagKind::Unclosed, 0),
-    ("<", TagKind::Unclosed, 0),
-    ("\u{feff} <", TagKind::Unclosed, 4),
-    ("<a b='>'", TagKind::Unclosed, 0),
     ("<a b=\">", TagKind::Unclosed, 0),
     ("<a></a '>", TagKind::Unclosed, 3),
-    ("<a></a", TagKind::Unclosed, 3),
-    ("<?>", TagKind::Unclosed, 0),
-    ("<?p ?", TagKind::Unclosed, 0),
-    ("<!-->", TagKind::Unclosed, 0),
-    ("<!--->", TagKind::Unclosed, 0),
-    ("<!-- -- >", TagKind::Unclosed, 0),
     ("<![CDATA[ ]]", TagKind::Unclosed, 0),
-    ("<a><![CDATA[>]]</a>", TagKind::Unclosed, 3),
-    ("<!DOCTYP", TagKind::Unclosed, 0),
-    ("<!DOCTYPE", TagKind::Doctype, 0),
     ("<!DOCTYPE a><a/>", TagKind::Doctype, 0),
-    ("<!DOCTYPEx>", TagKind::Doctype, 0),
-    (" <a><!DOCTYPE a></a>", TagKind::Doctype, 4),
     ("<!doctype a><a/>", TagKind::BadMark, 0),
-    ("<!ELEMENT a>", TagKind::BadMark, 0),
-    ("<![cdata[]]>", TagKind::BadMark, 0),
-    ("<!>", TagKind::BadMark, 0),
     ("<>", TagKind::BadMark, 0),
-    ("< a/>", TagKind::BadMark, 0),
-    ("</>", TagKind::BadMark, 0),
-    ("</ a>", TagKind::BadMark, 0),
-    ("<a//>", TagKind::BadMark, 0),
-    ("<a / >", TagKind::BadMark, 0),
     ("<a b/>", TagKind::BadMark, 0),
-    ("<a b=c/>", TagKind::BadMark, 0),
-    ("<a ='1'/>", TagKind::BadMark, 0),
     ("<a b='1'c='2'/>", TagKind::BadMark, 0),
-    ("<a !b='1'/>", TagKind::BadMark, 0),
-    ("<a'1'/>", TagKind::BadMark, 0),
-    ("<a b='<'/>", TagKind::BadMark, 0),
-    ("<a b='<'></a>", TagKind::BadMark, 0),
-    ("<a></!a>", TagKind::BadMark, 3),
     ("<a></a b='1'>", TagKind::BadMark, 3),
-    ("<a></a/>", TagKind::BadMark, 3),
-    ("<a></a \">\">", TagKind::BadMark, 3),
     ("<a/><b/>", TagKind::BadMark, 4),
-    ("<a></a><a/>", TagKind::BadMark, 7),
-    ("<a/><b c='' c=''/>", TagKind::BadMark, 4),
-    ("<![CDATA[]]><a/>", TagKind::BadMark, 0),
-    ("<a/><![CDATA[ ]]>", TagKind::BadMark, 4),
     ("x<a/>", TagKind::BadMark, 0),
-    ("\n x<a", TagKind::BadMark, 2),
-    ("\u{a0}<a/>", TagKind::BadMark, 0),
     ("\u{feff}\u{feff}<a/>", TagKind::BadMark, 3),
-    ("<a/>\n x", TagKind::BadMark, 6),
-    ("<a/>&#32;", TagKind::BadMark, 4),
-    ("x</a>", TagKind::BadMark, 0),
-    ("<a b='1' b='2'/>", TagKind::Twice, 0),
     ("<a><b c='1' d='' c=\"1\"></c></a>", TagKind::Twice, 3),
     ("</a>", TagKind::Mismatch, 0),
-    ("<a></b>", TagKind::Mismatch, 3),
-    ("<a></ab>", TagKind::Mismatch, 3),
     ("<ab></a>", TagKind::Mismatch, 4),
-    ("<a></A>", TagKind::Mismatch, 3),
-    ("<a/></a>", TagKind::Mismatch, 4),
     ("<a></a></a>", TagKind::Mismatch, 7),
-    ("<a><b></a></b>", TagKind::Mismatch, 6),
-    ("\u{feff}<a></b><!DOCTYPE", TagKind::Mismatch, 6),
     ("<a/><?p", TagKind::Unclosed, 4),
 ];
 
@@ -289,22 +180,10 @@ fn faults(rt: HostRuntime) {
     }
 }
 
-#[test]
-fn faults_are_told(rt: HostRuntime) -> Result<(), Fail> {
-    let fault = read_tags(rt.alloc(), &LIFT[..33])
-        .err()
-        .ok_or("a cut file")?;
-    let text = format!(in rt.alloc(); "{fault}")?;
-    assert_eq!(rt; text.as_str(), "Unclosed at 19");
-    Ok(())
-}
-
 // What follows 64 open elements, and the first fault there.
-const DEEP: [(&str, TagKind, u64); 5] = [
+const DEEP: [(&str, TagKind, u64); 3] = [
     ("<a/>", TagKind::Depth, 192),
-    ("<a></a>", TagKind::Depth, 192),
     ("<a b='' b=''>", TagKind::Twice, 192),
-    ("<a b>", TagKind::BadMark, 192),
     ("</b>", TagKind::Mismatch, 192),
 ];
 
@@ -396,15 +275,5 @@ fn names(rt: HostRuntime) -> Result<(), Fail> {
     assert!(rt; !names.add("a")?);
     assert_eq!(rt; names.number_of("b"), Some(1));
     assert_eq!(rt; names.number_of("c"), None);
-    Ok(())
-}
-
-#[test]
-fn texts_are_compared(rt: HostRuntime) -> Result<(), Fail> {
-    let lift = Text::copy(rt.alloc(), "lift")?;
-    assert!(rt; lift == Text::copy(rt.alloc(), "lift")?);
-    for other in ["", "lif", "Lift", "lift "] {
-        assert!(rt; lift != Text::copy(rt.alloc(), other)?);
-    }
     Ok(())
 }
