@@ -13,7 +13,7 @@ use rb_rows::{FieldFault, FieldKind};
 use rb_run::{Answer, Job, Slot, SlotInput, Task, answer_slot, line_room, put_line};
 use rb_text::Out;
 use rb_tree::{Robot, State};
-use rb_work::{Name, NameKind, RowFault, Work};
+use rb_work::Work;
 use std::alloc::{AllocError, Global};
 use std::test::*;
 
@@ -86,16 +86,6 @@ fn lifted(alloc: Global, job: &Job, row: u64, up: Iv) -> Result<Out, AllocError>
     slot.input = SlotInput::Row;
     let mut work = work_for(alloc, &job.robot)?;
     answer_slot(job, &mut slot, &mut work);
-    line_of(alloc, job, &slot)
-}
-
-// The line of the row of this number, with the neutral state and this answer.
-fn answered(alloc: Global, job: &Job, row: u64, answer: Answer) -> Result<Out, AllocError>
-    requires { ¬ answer ≡ Idle }
-{
-    let mut slot = Slot::new(alloc, job)?;
-    slot.row = row;
-    slot.answer = answer;
     line_of(alloc, job, &slot)
 }
 
@@ -207,53 +197,6 @@ fn sizes_are_refused(rt: HostRuntime) -> Result<(), Fail> {
     let job = job_of(alloc, HEAVY, Task::Rnea, false).ok_or("the robot is built")?;
     let line = lifted(alloc, &job, 1, Iv::new(ONE * ONE, ONE * ONE))?;
     assert_eq!(rt; line.bytes(), b"1,size,b[2],\n".as_slice());
-    let told = job_of(alloc, HEAVY, Task::Rnea, true).ok_or("the robot is built")?;
-    let line = lifted(alloc, &told, 1, Iv::new(ONE * ONE, ONE * ONE))?;
-    assert_eq!(rt;
-        line.bytes(),
-        b"1,size,b[2],0.000000000000..0.000000000000,0.000000000000..0.000000000000,1000000000000.000000000000..1000000000000.000000000000,0.000000000000..0.000000000000,\n".as_slice()
-    );
-    Ok(())
-}
-
-#[test]
-fn bad_fields_tell_no_numbers(rt: HostRuntime) -> Result<(), Fail> {
-    let alloc = rt.alloc();
-    let job = job_of(alloc, LIFT, Task::Rnea, true).ok_or("the robot is built")?;
-    let fault = FieldFault {
-        kind: FieldKind::NotNumber,
-        field: 3,
-    };
-    let line = answered(alloc, &job, 7, Answer::Bad(fault))?;
-    assert_eq!(rt; line.bytes(), b"7,field,NotNumber[3],,,,,\n".as_slice());
-    Ok(())
-}
-
-#[test]
-fn causes_are_told(rt: HostRuntime) -> Result<(), Fail> {
-    let alloc = rt.alloc();
-    let job = job_of(alloc, LIFT, Task::Rnea, false).ok_or("the robot is built")?;
-    let name = Name::one(NameKind::q, 2);
-    let range = Answer::Refused(RowFault::Range { name });
-    assert_eq!(rt;
-        answered(alloc, &job, 1, range)?.bytes(),
-        b"1,range,q[2],\n".as_slice()
-    );
-    let name = Name::two(NameKind::L, 13, 4);
-    let not_unit = Answer::Refused(RowFault::NotUnit { name });
-    assert_eq!(rt;
-        answered(alloc, &job, 1, not_unit)?.bytes(),
-        b"1,notunit,L[13.4],\n".as_slice()
-    );
-    let name = Name::one(NameKind::D, 1);
-    let pivot = Answer::Refused(RowFault::Pivot {
-        name,
-        iv: Iv::new(-1, ONE),
-    });
-    assert_eq!(rt;
-        answered(alloc, &job, 1, pivot)?.bytes(),
-        b"1,pivot,D[1]=-0.000000000001..1.000000000000,\n".as_slice()
-    );
     Ok(())
 }
 

@@ -1,8 +1,6 @@
 //! Headers of tables with faults counted by hand, and the lines of names.
 use crate::robots::{ARM, BLOCK, FOLLOWER, robot_on};
-use rb_rows::{
-    FieldFault, FieldKind, Header, HeaderFault, HeaderKind, Target, Task, column_line, head_line,
-};
+use rb_rows::{Header, HeaderFault, HeaderKind, Target, Task, column_line, head_line};
 use rb_tags::{RootKind, Text};
 use rb_tree::Robot;
 use std::alloc::{AllocError, Global};
@@ -22,21 +20,7 @@ fn has_fault(alloc: Global, robot: &Robot, line: &[u8], kind: HeaderKind, field:
 }
 
 // The first line of a table of the arm, and what its fields stand for.
-const TARGETS: [(&[u8], &[Target]); 4] = [
-    (
-        b"q.lift,q.turn.cos,q.turn.sin,v.lift,v.turn,a.lift,a.turn,tau.lift,tau.turn",
-        &[
-            Target::Entry(0),
-            Target::Entry(1),
-            Target::Entry(2),
-            Target::Speed(0),
-            Target::Speed(1),
-            Target::Acceleration(0),
-            Target::Acceleration(1),
-            Target::Torque(0),
-            Target::Torque(1),
-        ],
-    ),
+const TARGETS: [(&[u8], &[Target]); 2] = [
     (
         b"tau.turn,#when,q.turn.sin,a.lift,#when",
         &[
@@ -51,7 +35,6 @@ const TARGETS: [(&[u8], &[Target]); 4] = [
         b"\xEF\xBB\xBF\"v.turn\",v.lift",
         &[Target::Speed(1), Target::Speed(0)],
     ),
-    (b"\"v.turn", &[Target::Speed(1)]),
 ];
 
 #[test]
@@ -64,15 +47,12 @@ fn columns_come_in_any_order(rt: HostRuntime) -> Result<(), Fail> {
 }
 
 // The first line of a table of the arm, and the kind and the field of its fault.
-const FAULTS: [(&[u8], HeaderKind, u32); 8] = [
-    (b"", HeaderKind::BadHeader, 0),
+const FAULTS: [(&[u8], HeaderKind, u32); 5] = [
     (b"v.lift\rv.turn", HeaderKind::BadHeader, 0),
     (b"v.lift,\xFF", HeaderKind::BadHeader, 0),
     (b"v.lift,q.turn", HeaderKind::UnknownColumn, 2),
-    (b"v.lift, v.turn", HeaderKind::UnknownColumn, 2),
     (b"v.lift,", HeaderKind::UnknownColumn, 2),
     (b"v.lift,#,v.lift,x", HeaderKind::ColumnTwice, 3),
-    (b"x,v.lift,x,v.lift", HeaderKind::UnknownColumn, 1),
 ];
 
 #[test]
@@ -87,62 +67,11 @@ fn headers_are_refused_at_their_first_bad_field(rt: HostRuntime) -> Result<(), F
     Ok(())
 }
 
-// A robot, its root, the first line of a table of it, and what its fields stand for.
-const NAMED: [(&str, Option<RootKind>, &[u8], &[Target]); 3] = [
-    (
-        FOLLOWER,
-        None,
-        b"tau.lift,q.lift",
-        &[Target::Torque(0), Target::Entry(0)],
-    ),
-    (
-        BLOCK,
-        Some(RootKind::Planar),
-        b"q.root_joint.sin,v.root_joint.wz,q.root_joint.x",
-        &[Target::Entry(3), Target::Speed(2), Target::Entry(0)],
-    ),
-    (
-        BLOCK,
-        Some(RootKind::Floating),
-        b"q.root_joint.qw,a.root_joint.vx,tau.root_joint.wz",
-        &[Target::Entry(6), Target::Acceleration(0), Target::Torque(5)],
-    ),
-];
-
-#[test]
-fn columns_are_named_by_their_joints(rt: HostRuntime) -> Result<(), Fail> {
-    for (text, root, line, targets) in NAMED {
-        let robot = robot_on(rt.alloc(), text, root).ok_or("a robot")?;
-        assert!(rt;
-            has_targets(rt.alloc(), &robot, line, targets),
-            "at {line:?}"
-        );
-    }
-    Ok(())
-}
-
 #[test]
 fn a_joint_that_follows_another_has_no_column(rt: HostRuntime) -> Result<(), Fail> {
     let follower = robot_on(rt.alloc(), FOLLOWER, None).ok_or("a robot")?;
     let line = b"tau.lift,q.turn";
     assert!(rt; has_fault(rt.alloc(), &follower, line, HeaderKind::UnknownColumn, 2));
-    Ok(())
-}
-
-#[test]
-fn faults_are_told(rt: HostRuntime) -> Result<(), Fail> {
-    let header = HeaderFault {
-        kind: HeaderKind::BadHeader,
-        field: 0,
-    };
-    let text = format!(in rt.alloc(); "{header}")?;
-    assert_eq!(rt; text.as_str(), "BadHeader at field 0");
-    let field = FieldFault {
-        kind: FieldKind::NotNumber,
-        field: 3,
-    };
-    let text = format!(in rt.alloc(); "{field}")?;
-    assert_eq!(rt; text.as_str(), "NotNumber[3]");
     Ok(())
 }
 
@@ -157,13 +86,7 @@ const QUOTED: &str = "<robot name='arm'><link name='base'/><link name='upper'/>\
 <limit lower='-1' upper='1' effort='1' velocity='1'/></joint></robot>";
 
 // A robot, its root, and the line of its columns.
-const COLUMNS: [(&str, Option<RootKind>, &str); 5] = [
-    (
-        ARM,
-        None,
-        "q.lift,q.turn.cos,q.turn.sin,v.lift,v.turn,a.lift,a.turn,tau.lift,tau.turn\n",
-    ),
-    (FOLLOWER, None, "q.lift,v.lift,a.lift,tau.lift\n"),
+const COLUMNS: [(&str, Option<RootKind>, &str); 2] = [
     (
         BLOCK,
         Some(RootKind::Planar),
@@ -176,7 +99,6 @@ tau.root_joint.vx,tau.root_joint.vy,tau.root_joint.wz\n",
         None,
         "\"q.up, \"\"or\"\" down\",\"v.up, \"\"or\"\" down\",\"a.up, \"\"or\"\" down\",\"tau.up, \"\"or\"\" down\"\n",
     ),
-    (BLOCK, None, "\n"),
 ];
 
 #[test]
@@ -189,7 +111,7 @@ fn columns_are_named_in_a_line(rt: HostRuntime) -> Result<(), Fail> {
 }
 
 // A robot, a task, whether the numbers of a row are told, and the first line.
-const HEADS: [(&str, Task, bool, &str); 8] = [
+const HEADS: [(&str, Task, bool, &str); 5] = [
     (
         ARM,
         Task::Rnea,
@@ -203,13 +125,6 @@ const HEADS: [(&str, Task, bool, &str); 8] = [
         "row,answer,cause,M.1.1,M.1.2,M.2.2\n",
     ),
     (ARM, Task::Fd, false, "row,answer,cause,a.lift,a.turn\n"),
-    (ARM, Task::Aba, false, "row,answer,cause,a.lift,a.turn\n"),
-    (
-        ARM,
-        Task::Contact,
-        false,
-        "row,answer,cause,a.lift,a.turn\n",
-    ),
     (
         ARM,
         Task::Impulse,
@@ -222,7 +137,6 @@ const HEADS: [(&str, Task, bool, &str); 8] = [
         true,
         "row,answer,cause,in.q.lift,in.v.lift,in.a.lift,in.tau.lift,M.1.1\n",
     ),
-    (BLOCK, Task::Crba, true, "row,answer,cause\n"),
 ];
 
 #[test]
@@ -235,18 +149,4 @@ fn the_first_line_names_the_values_of_the_task(rt: HostRuntime) -> Result<(), Fa
         );
     }
     Ok(())
-}
-
-#[test]
-fn tasks_have_words(rt: HostRuntime) {
-    for (task, word) in [
-        (Task::Rnea, "rnea"),
-        (Task::Crba, "crba"),
-        (Task::Fd, "fd"),
-        (Task::Aba, "aba"),
-        (Task::Contact, "contact"),
-        (Task::Impulse, "impulse"),
-    ] {
-        assert_eq!(rt; task.word(), word);
-    }
 }

@@ -12,6 +12,4 @@ mod robots;
 #[cfg(test)]
 mod rows;
 #[cfg(test)]
-mod shared;
-#[cfg(test)]
 mod words;
