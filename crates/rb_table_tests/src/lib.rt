@@ -1,8 +1,10 @@
-//! Tests of the calls of `rb_rows`, `rb_run`, `rb_words` and `rb_model`, from outside.
+//! Tests of the calls of `rb_constraint`, `rb_rows`, `rb_run`, `rb_words` and `rb_model`, from outside.
 #![tactic(auto)]
 
 #[cfg(test)]
 mod answers;
+#[cfg(test)]
+mod constraints;
 #[cfg(test)]
 mod headers;
 #[cfg(test)]

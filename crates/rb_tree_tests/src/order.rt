@@ -147,7 +147,7 @@ struct Star {
 }
 
 // Links on a first one, by joints of this kind.
-fn star(alloc: Global, kind: &str, count: u32) -> Result<Star, Fail> {
+fn star_of(alloc: Global, kind: &str, count: u32) -> Result<Star, Fail> {
     let mut text = String::from_str(alloc, "<robot name='r'><link name='l'/>")?;
     let (mut link, mut joint) = (0, 0);
     for number in 0..count {
@@ -167,9 +167,9 @@ fn star(alloc: Global, kind: &str, count: u32) -> Result<Star, Fail> {
 #[test]
 fn at_most_256_links(rt: HostRuntime) -> Result<(), Fail> {
     let alloc = rt.alloc();
-    let most = star(alloc, "fixed", 255)?;
+    let most = star_of(alloc, "fixed", 255)?;
     assert!(rt; ends_with(alloc, most.text.as_str(), 256, ("l254", "j254", 1)));
-    let more = star(alloc, "fixed", 256)?;
+    let more = star_of(alloc, "fixed", 256)?;
     let kind = TreeKind::TooManyLinks;
     assert!(rt; has_fault(alloc, more.text.as_str(), None, kind, more.link));
     Ok(())
@@ -178,9 +178,9 @@ fn at_most_256_links(rt: HostRuntime) -> Result<(), Fail> {
 #[test]
 fn at_most_64_columns(rt: HostRuntime) -> Result<(), Fail> {
     let alloc = rt.alloc();
-    let most = star(alloc, "prismatic", 64)?;
+    let most = star_of(alloc, "prismatic", 64)?;
     assert!(rt; ends_with(alloc, most.text.as_str(), 65, ("l63", "j63", 1)));
-    let more = star(alloc, "prismatic", 65)?;
+    let more = star_of(alloc, "prismatic", 65)?;
     let kind = TreeKind::TooManyColumns;
     assert!(rt; has_fault(alloc, more.text.as_str(), None, kind, more.joint));
     Ok(())
