@@ -14,3 +14,6 @@ pub mod ContactEncloses
 pub mod SameMotions
 pub mod Totals
 pub mod OneContact
+pub mod Lengths
+pub mod Prepared
+pub mod ContactAnswer

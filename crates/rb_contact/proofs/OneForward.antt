@@ -36,7 +36,7 @@ use Rattle.rb_contact.proofs.Stays.{dynamics_stay}
 use Rattle.rb_contact.proofs.RowEncloses.{ascends_for, in_order, found_in}
 
 -- ---- lists of columns
-numbered : {A : Type 0} (f : ℕ → A) (n c : ℕ) (d : A) → 1 ≤ c → c ≤ n → get_or (map f (upward 1 (n + 1))) (c - 1) d ≡ f c
+pub numbered : {A : Type 0} (f : ℕ → A) (n c : ℕ) (d : A) → 1 ≤ c → c ≤ n → get_or (map f (upward 1 (n + 1))) (c - 1) d ≡ f c
 numbered f n c d low high =
     let e : 1 + (c - 1) ≡ c = omega arith in
     get_or-map f (upward 1 (n + 1)) (c - 1) 0 d (omega (arith, length-upward 1 (n + 1)))

@@ -1,6 +1,6 @@
 -- Forward dynamics of a row under rows of constraints: the values that a work holds, what is refused first, and what the values enclose. Featherstone,
 -- Rigid Body Dynamics Algorithms, chapter 8.
-use Rattle.std.specs.Prelude.{◌≡◌, ℕ, ◌+◌, List, map}
+use Rattle.std.specs.Prelude.{◌≡◌, ◌↔◌, ℕ, ◌+◌, List, map, Result, Ok, Err}
 use Rattle.rb_num.specs.Interval.{Interval}
 use Rattle.rb_num.specs.Fraction.{LiesIn}
 use Rattle.rb_frac.specs.Frac.{Frac, Same, fracs}
@@ -9,6 +9,7 @@ use Rattle.rb_flat.specs.Mechanism.{mechanism_of}
 use Rattle.rb_flat.specs.Dynamics.{Unknowns, HasOneSolution, InverseDynamics, unaccelerated, no_force}
 use Rattle.rb_flat.specs.Contact.{Constraints, HasRow, SameContact, SolvesContact}
 use Rattle.rb_jacobian.specs.Jacobian.{row_accelerations}
+use Rattle.rb_result.specs.Steps.{◌>>=◌}
 use Rattle.rb_sweep.specs.Sweep.{upward}
 use Rattle.rb_work.specs.declared.names.RowFault.{RowFault}
 use Rattle.rb_work.specs.Path.{above}
@@ -17,14 +18,17 @@ use Rattle.rb_tree.specs.Robot.{Tree, HasColumn}
 use Rattle.rb_tree.specs.Shape.{shape_of, brackets_of}
 use Rattle.rb_tree.specs.State.{Row, state_brackets}
 use Rattle.rb_factor.specs.Solve.{HoldsReduced, HoldsDivided, HoldsSubstituted, RefusesReduce, RefusesDivide, RefusesSubstitute}
+use Rattle.rb_factor.specs.Sweeps.{reduce_of, divide_of, substitute_of}
 use Rattle.rb_constraint.specs.Constraints.{IsConstraintChoice}
 use Rattle.rb_constraint.specs.Rows.{AreRows, IsRowRefused}
 use Rattle.rb_constraint.specs.Bias.{AreBias, IsBiasRefused}
+use Rattle.rb_constraint.specs.Steps.{fills_of, bias_of}
 use Rattle.rb_constraint.specs.Encloses.{RowsLie}
 use Rattle.rb_coupling.specs.Couple.{HoldsCoupling, IsCoupleRefused}
 use Rattle.rb_coupling.specs.Forces.{HoldsRowSides, HoldsRowForces, HoldsAddedForces, RefusesRowSides, RefusesRowForces, RefusesAddedForces}
+use Rattle.rb_coupling.specs.Sweeps.{couple_of, sides_of, row_forces_of, added_of}
 use Rattle.rb_contact.specs.Driving.{AreDriving}
-use Rattle.rb_contact.specs.Forward.{AreFactored, IsPreparationRefused, accelerations_in}
+use Rattle.rb_contact.specs.Forward.{AreFactored, IsPreparationRefused, prepared_of, accelerations_in}
 
 -- ---- values
 abbrev pub compliances : Constraints Interval → ℕ → Interval
@@ -84,6 +88,47 @@ pub data IsContactRefused (tree : Tree) (row : Row) (k : Constraints Interval) (
 abbrev pub forces_in : Constraints Interval → View → List Interval
 forces_in k w = map (lam_at w) (upward 1 (k.rows + 1))
 
+-- how the rows act on one another
+abbrev pub coupled_of : Constraints Interval → View → Result View RowFault
+coupled_of k w =
+    couple_of w.up w.rows w.packed w.J (map (compliances k) (upward 1 (k.rows + 1))) (w.Y, w.Z, w.pairs) >>= λ t.
+    Ok (record w { Y = t.0; Z = t.1; pairs = t.2 })
+
+-- the steps that find numbers of columns or rows from those that the work has
+abbrev pub reduced_of : View → Result View RowFault
+reduced_of w = reduce_of w.up w.packed w.w >>= λ t. Ok (record w { w = t })
+
+abbrev pub divided_of : View → Result View RowFault
+divided_of w = divide_of w.up w.packed w.w w.z >>= λ t. Ok (record w { z = t })
+
+abbrev pub sided_of : View → Result View RowFault
+sided_of w = sides_of (columns_of w) w.rows w.Y w.z w.g w.e >>= λ t. Ok (record w { e = t })
+
+abbrev pub forced_of : View → Result View RowFault
+forced_of w = row_forces_of w.rows w.pairs (w.e, w.lam) >>= λ t. Ok (record w { e = t.0; lam = t.1 })
+
+abbrev pub pushed_of : View → Result View RowFault
+pushed_of w = added_of (columns_of w) w.rows w.Y w.lam w.w >>= λ t. Ok (record w { w = t })
+
+abbrev pub substituted_of : View → Result View RowFault
+substituted_of w = substitute_of w.up w.packed w.z w.x >>= λ t. Ok (record w { x = t })
+
+-- from zeros each part in turn, up to the first that is refused
+unfoldable pub contact_of : Tree → Row → Constraints Interval → Result (List Interval × List Interval) RowFault
+contact_of tree row k =
+    prepared_of tree row k.rows >>= λ p.
+    fills_of tree k p >>= λ r.
+    bias_of k r >>= λ b.
+    coupled_of k b >>= λ c.
+    reduced_of c >>= λ d.
+    divided_of d >>= λ u.
+    sided_of u >>= λ s.
+    forced_of s >>= λ f.
+    pushed_of f >>= λ a.
+    divided_of a >>= λ v.
+    substituted_of v >>= λ w.
+    Ok (accelerations_in tree w, forces_in k w)
+
 -- ---- what they enclose
 -- the equations of motion with those of the rows have exactly one solution under the torques of the choice. The accelerations of its joints lie in x and
 -- the forces of its rows in lam; the Jacobian at its turns lies in J, and how the rows accelerate where no joint does lies in g.
@@ -106,6 +151,12 @@ pub record HasOneContact (tree : Tree) (row : Row) (k : Constraints Interval) : 
   pub forces : (u w : View) → AreContact tree row k u → AreContact tree row k w → forces_in k u ≡ forces_in k w
   pub either : (w : View) (e : RowFault) → AreContact tree row k w → IsContactRefused tree row k e → ⊥
   pub refusal : (d e : RowFault) → IsContactRefused tree row k d → IsContactRefused tree row k e → d ≡ e
+
+-- what the answer means: accelerations and forces of such values, or a refusal of such a part
+pub record ContactMeans (tree : Tree) (row : Row) (k : Constraints Interval) : Type 0 where
+  pub values : (numbers : List Interval × List Interval) →
+      (contact_of tree row k ≡ Ok numbers) ↔ ((w : View) × AreContact tree row k w × ((accelerations_in tree w, forces_in k w) ≡ numbers))
+  pub refused : (e : RowFault) → (contact_of tree row k ≡ Err e) ↔ IsContactRefused tree row k e
 
 -- all such values enclose the one solution of each choice
 pub record ContactEncloses (tree : Tree) (row : Row) (k : Constraints Interval) : Type 0 where

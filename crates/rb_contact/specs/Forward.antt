@@ -72,15 +72,17 @@ solved_of w =
     substitute_of w.up w.packed quotients w.x >>= λ numbers.
     Ok (record w { w = right; z = quotients; x = numbers })
 
--- from zeros each part in turn, up to the first that is refused
-unfoldable pub forward_of : Tree → Row → Result (List Interval) RowFault
-forward_of tree row =
-    run (names (rule tree (unaccelerated row)) (order tree)) (order tree) (blank_of (extent_for tree)) >>= λ u.
+-- from zeros each part in turn, up to what is left of the torques or the first that is refused, in a work with so many rows
+unfoldable pub prepared_of : Tree → Row → ℕ → Result View RowFault
+prepared_of tree row rows =
+    run (names (rule tree (unaccelerated row)) (order tree)) (order tree) (blank_of (record (extent_for tree) { rows = rows })) >>= λ u.
     run (naming tree) (mass_order tree) u >>= λ m.
     factored_of m >>= λ f.
-    driven_of tree row f >>= λ d.
-    solved_of d >>= λ w.
-    Ok (accelerations_in tree w)
+    driven_of tree row f
+
+-- and the solution
+unfoldable pub forward_of : Tree → Row → Result (List Interval) RowFault
+forward_of tree row = prepared_of tree row 0 >>= λ d. solved_of d >>= λ w. Ok (accelerations_in tree w)
 
 -- ---- what they enclose
 -- the equations of motion have exactly one solution under the torques of the choice, and the accelerations of its joints lie in x

@@ -1,13 +1,15 @@
 //! Forward dynamics of a row under rows of constraints.
 
 ghost use Rattle.std.specs.Prelude.{◌≡◌, OnOk, IfErr};
+ghost use Rattle.rb_sweep.specs.Sweep.{Answers};
 ghost use Rattle.rb_flat.specs.Contact.{RowsFit};
 ghost use Rattle.rb_tree.specs.Shape.{shape_of};
 ghost use Rattle.rb_tree.specs.State.{Fits};
 ghost use Rattle.rb_tree.specs.Places.{IsFor};
 ghost use Rattle.rb_constraint.specs.Constraints.{constraints_of};
 ghost use Rattle.rb_contact.specs.Driving.{IsRightSide};
-ghost use Rattle.rb_contact.specs.Contact.{AreConstrained, AreForced, AreContact, IsContactRefused, EnclosesContact};
+ghost use Rattle.rb_contact.specs.Forward.{accelerations_in};
+ghost use Rattle.rb_contact.specs.Contact.{AreConstrained, AreForced, AreContact, IsContactRefused, contact_of, forces_in, EnclosesContact};
 
 use crate::row::prepared;
 use rb_constraint::{Constraints, fill_bias, fill_rows};
@@ -81,6 +83,9 @@ pub fn contact(
     // the first part that is refused, behind those whose values are there
     ensures refused { IfErr result (IsContactRefused robot.now state.now (constraints_of cons.now)) }
 
+    // one answer, whatever the work held before
+    ensures answer { Answers result (contact_of robot.now state.now (constraints_of cons.now)) (accelerations_in robot.now work.new, forces_in (constraints_of cons.now) work.new) }
+
     // the equations of motion of each choice, with those of the rows, have one solution, and its accelerations and forces lie in the values
     ensures encloses { OnOk result (EnclosesContact robot.now state.now (constraints_of cons.now) work.new) }
 
@@ -88,6 +93,7 @@ pub fn contact(
     ensures others { work.new ≡ record work.old { q = work.new.q; X = work.new.X; s = work.new.s; v = work.new.v; c = work.new.c; a = work.new.a; b = work.new.b; f = work.new.f; t = work.new.t; T = work.new.T; I = work.new.I; H = work.new.H; packed = work.new.packed; w = work.new.w; z = work.new.z; x = work.new.x; O = work.new.O; K = work.new.K; J = work.new.J; g = work.new.g; Y = work.new.Y; Z = work.new.Z; pairs = work.new.pairs; e = work.new.e; lam = work.new.lam; k = work.new.k } }
 {
     let _tree = robot.bodies();
+    let _sizes = work.bodies();
     forced(robot, cons, state, work)?;
     add_row_forces(work)?;
     divide(work)?;

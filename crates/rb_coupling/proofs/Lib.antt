@@ -11,7 +11,7 @@ mod Numbers
 mod Forcing
 mod Meeting
 pub mod Enclosing
-mod Answered
+pub mod Answered
 pub mod Borders
 pub mod OneForce
 pub mod OneCoupling

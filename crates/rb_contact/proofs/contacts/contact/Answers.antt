@@ -3,6 +3,7 @@ use Rattle.rb_factor.specs.Solve.{RefusesSubstitute}
 use Rattle.rb_constraint.specs.Constraints.{constraints_of}
 use Rattle.rb_contact.specs.Contact.{IsContactRefused}
 use Rattle.rb_contact.proofs.Contacted.{second_divisors, second_refused, last_refused, contact_from}
+use Rattle.rb_contact.proofs.ContactAnswer.{few_rows, contact_refused_is, told_contact}
 use Rattle.rb_contact.proofs.ContactEncloses.{contact_encloses}
 use Rattle.rb_contact.proofs.contacts.contact.Goals as goal
 
@@ -54,6 +55,42 @@ returns-clause-refused c =
     IfErr-weaker c.substitute.result (RefusesSubstitute d) (IsContactRefused tree row k)
     (λ e h. last_refused tree row k f a d c.in_ok-forced.ensures.values c.add_row_forces.ensures.others c.in_ok-add_row_forces.ensures.values c.divide.ensures.others c.in_ok-divide.ensures.values e h)
     c.substitute.ensures.refused
+
+pub returns-in_err-forced-clause-answer : goal.returns-in_err-forced-clause-answer
+returns-in_err-forced-clause-answer c =
+    let tree = c.args.robot.now in
+    let row = c.args.state.now in
+    let k = constraints_of c.args.cons.now in
+    let limit = few_rows c.args.work.now k c.requires.rows c.bodies-sizes.ensures.sized in
+    let p = err_from_is_err_and c.from_residual.result c.from_residual.ensures.1 in
+    rw (p.1, p.2) (contact_refused_is tree row k c.bodies-tree.ensures.kept c.requires.fit limit _ c.in_err-forced.ensures.refused)
+
+pub returns-in_err-add_row_forces-clause-answer : goal.returns-in_err-add_row_forces-clause-answer
+returns-in_err-add_row_forces-clause-answer c =
+    let tree = c.args.robot.now in
+    let row = c.args.state.now in
+    let k = constraints_of c.args.cons.now in
+    let limit = few_rows c.args.work.now k c.requires.rows c.bodies-sizes.ensures.sized in
+    let p = err_from_is_err_and c.from_residual-in_err-add_row_forces.result c.from_residual-in_err-add_row_forces.ensures.1 in
+    rw (p.1, p.2) (contact_refused_is tree row k c.bodies-tree.ensures.kept c.requires.fit limit _ (IsContactRefused.in_addition c.forced.new.work c.in_ok-forced.ensures.values c.in_err-add_row_forces.ensures.refused))
+
+pub returns-in_err-divide-clause-answer : goal.returns-in_err-divide-clause-answer
+returns-in_err-divide-clause-answer c =
+    let tree = c.args.robot.now in
+    let row = c.args.state.now in
+    let k = constraints_of c.args.cons.now in
+    let limit = few_rows c.args.work.now k c.requires.rows c.bodies-sizes.ensures.sized in
+    let p = err_from_is_err_and c.from_residual-in_err-divide.result c.from_residual-in_err-divide.ensures.1 in
+    rw (p.1, p.2) (contact_refused_is tree row k c.bodies-tree.ensures.kept c.requires.fit limit _ (second_refused tree row k c.forced.new.work c.add_row_forces.new.work _ c.in_ok-forced.ensures.values c.add_row_forces.ensures.others
+    c.in_ok-add_row_forces.ensures.values c.in_err-divide.ensures.refused))
+
+pub returns-clause-answer : goal.returns-clause-answer
+returns-clause-answer c =
+    let tree = c.args.robot.now in
+    let row = c.args.state.now in
+    let k = constraints_of c.args.cons.now in
+    let limit = few_rows c.args.work.now k c.requires.rows c.bodies-sizes.ensures.sized in
+    told_contact tree row k c.bodies-tree.ensures.kept c.requires.fit limit c.substitute.result c.substitute.new.work (returns-clause-values c) (returns-clause-refused c)
 
 pub returns-clause-encloses : goal.returns-clause-encloses
 returns-clause-encloses c =
