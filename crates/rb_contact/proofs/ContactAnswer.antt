@@ -1,12 +1,12 @@
 -- What forward dynamics under rows of constraints finds from zeros, and what its answer means.
-use Rattle.std.proofs.Common.{◌≡◌, ◌≤◌, ◌+◌, ◌-◌, ℕ, List, length, map, Result, Ok, Err, OnOk, IfErr, inl, inr, refl, sym, ap, ◌∙◌, subst, arith}
+use Rattle.std.proofs.Common.{◌≡◌, ◌≤◌, ◌+◌, ◌-◌, ℕ, List, length, map, Result, Ok, Err, OnOk, IfErr, inl, inr, refl, sym, ap, ◌∙◌, subst}
 use mathlib.Core.Path.{ap₂}
 use Rattle.rb_num.specs.Interval.{Interval, zero_interval}
 use Rattle.rb_result.specs.Steps.{◌>>=◌}
 use Rattle.rb_result.proofs.Results.{same_ok, then-ok, then-err, not-both}
 use Rattle.rb_sweep.specs.Sweep.{Answers, upward}
 use Rattle.rb_sweep.proofs.NamingLaws.{found}
-use Rattle.rb_flat.specs.Contact.{Constraints, HasRow, RowsFit}
+use Rattle.rb_flat.specs.Contact.{Constraints, RowsFit}
 use Rattle.rb_bordered.specs.Steps.{IsRow}
 use Rattle.rb_work.specs.declared.names.RowFault.{RowFault}
 use Rattle.rb_work.specs.View.{View, IsSized, extent_of, columns_of}
@@ -28,11 +28,11 @@ use Rattle.rb_coupling.specs.Couple.{HoldsCoupling}
 use Rattle.rb_coupling.specs.Forces.{HoldsRowSides, HoldsRowForces, HoldsAddedForces}
 use Rattle.rb_coupling.specs.Sweeps.{couple_of, sides_of, row_forces_of, added_of}
 use Rattle.rb_coupling.proofs.Answered as Rows
-use Rattle.rb_contact.specs.Driving.{AreDriving, IsRightSide}
+use Rattle.rb_contact.specs.Driving.{IsRightSide}
 use Rattle.rb_contact.specs.Forward.{AreFactored, prepared_of, accelerations_in}
 use Rattle.rb_contact.specs.Contact.{compliances, AreConstrained, AreFree, AreForced, AreContact, IsContactRefused, forces_in, coupled_of, reduced_of, divided_of, sided_of, forced_of, pushed_of, substituted_of, contact_of, HasOneContact, ContactMeans}
 use Rattle.rb_contact.proofs.Sized.{sized_from}
-use Rattle.rb_contact.proofs.Lengths.{Two, Three, reduce_long, divide_long, coupling_long, sides_long, row_forces_long, added_long}
+use Rattle.rb_contact.proofs.Lengths.{reduce_long, divide_long, coupling_long, sides_long, row_forces_long, added_long}
 use Rattle.rb_contact.proofs.Prepared.{Prepared, prepared_found, prepared_refused}
 use Rattle.rb_contact.proofs.OneForward.{numbered}
 use Rattle.rb_contact.proofs.OneContact.{has_one_contact}

@@ -20,18 +20,17 @@ use Rattle.rb_bordered.specs.Steps.{IsRow}
 use Rattle.rb_bordered.specs.Forces.{HaveRowFactors, AreForcesFound, IsFoundWithForces}
 use Rattle.rb_bordered.specs.Equations.{IsOneBorderedSolution}
 use Rattle.rb_jacobian.specs.Jacobian.{row_accelerations, IsJacobian}
-use Rattle.rb_jacobian.specs.Laws.{MovesOnlyWith}
 use Rattle.rb_jacobian.proofs.Turns.{has_turns}
 use Rattle.rb_jacobian.proofs.Contact.{contact_has_one_solution}
 use Rattle.rb_work.specs.Path.{above}
 use Rattle.rb_work.specs.View.{View, columns_of, L_at, D_at, w_at, z_at, x_at, k_at, J_at, g_at, Y_at, Z_at, C_at, l_at, e_at, lam_at}
 use Rattle.rb_tree.specs.Columns.{column_count}
-use Rattle.rb_tree.specs.Robot.{Tree, HasColumn, AreBodies}
+use Rattle.rb_tree.specs.Robot.{Tree, AreBodies}
 use Rattle.rb_tree.specs.Shape.{shape_of, brackets_of}
 use Rattle.rb_tree.specs.State.{Row, state_brackets}
 use Rattle.rb_tree.proofs.Shapes.{mimics_fit}
 use Rattle.rb_tree.proofs.ColumnsFit.{columns_fit, parents_first}
-use Rattle.rb_factor.specs.Laws.{AreWithin, NumbersLie}
+use Rattle.rb_factor.specs.Laws.{AreWithin}
 use Rattle.rb_factor.proofs.Paths.{regular}
 use Rattle.rb_constraint.specs.Constraints.{IsConstraintChoice}
 use Rattle.rb_constraint.specs.Encloses.{RowsLie, MotionsLie, EnclosesRows, EnclosesBias}

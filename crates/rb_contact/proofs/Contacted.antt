@@ -15,7 +15,7 @@ use Rattle.rb_constraint.specs.Rows.{AreRows}
 use Rattle.rb_constraint.specs.Bias.{AreBias, IsBiasRefused}
 use Rattle.rb_coupling.specs.Steps.{of_row}
 use Rattle.rb_coupling.specs.Couple.{HoldsCoupling, HoldsRowDivisors, RefusesCouple, IsCoupleRefused}
-use Rattle.rb_coupling.specs.Forces.{HoldsRowSides, HoldsRowForces, HoldsAddedForces, RefusesRowSides, RefusesRowForces}
+use Rattle.rb_coupling.specs.Forces.{HoldsRowSides, HoldsRowForces, HoldsAddedForces, RefusesRowForces}
 use Rattle.rb_contact.specs.Driving.{AreDriving, IsRightSide}
 use Rattle.rb_contact.specs.Forward.{AreFactored}
 use Rattle.rb_contact.specs.Contact.{compliances, AreConstrained, AreFree, AreForced, AreContact, IsContactRefused}
@@ -156,6 +156,7 @@ module _ (tree : Tree) (row : Row) (k : Constraints Interval) where
       right_reduced = forces.right_reduced;
       right_divided = forces.right_divided;
       forces = forces.forces;
+      kept = forces.kept;
     };
   }
 

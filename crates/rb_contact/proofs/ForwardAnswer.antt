@@ -9,7 +9,6 @@ use Rattle.rb_work.specs.Path.{Ascends}
 use Rattle.rb_work.specs.View.{View, IsSized}
 use Rattle.rb_tree.specs.Robot.{Tree, AreBodies}
 use Rattle.rb_tree.specs.State.{Row}
-use Rattle.rb_mass.proofs.MassPass as Mass
 use Rattle.rb_factor.specs.Factor.{HoldsDivisors}
 use Rattle.rb_factor.specs.Solve.{HoldsSolution, IsSolveRefused, RefusesSolve}
 use Rattle.rb_factor.specs.Sweeps.{number_at, reduce_of, divide_of, substitute_of}

@@ -1,5 +1,5 @@
 -- The sweeps over a work keep how long its lists are.
-use Rattle.std.proofs.Common.{◌≡◌, ℕ, ◌+◌, List, [], ◌∷◌, length, slice_set, Result, Ok, refl, sym, ap, ◌∙◌, length-set}
+use Rattle.std.proofs.Common.{◌≡◌, ℕ, ◌+◌, List, [], ◌∷◌, length, slice_set, Result, Ok, sym, ap, ◌∙◌, length-set}
 use mathlib.Core.Path.{ap₂}
 use Rattle.rb_result.specs.Steps.{◌>>=◌}
 use Rattle.rb_result.proofs.Results.{same_ok, then-ok}

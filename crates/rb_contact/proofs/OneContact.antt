@@ -1,5 +1,5 @@
 -- There is one answer of forward dynamics under rows of constraints, from that of each of its parts.
-use Rattle.std.proofs.Common.{◌≡◌, ◌⊎◌, ℕ, ◌+◌, ◌≤◌, List, length, inl, inr, refl, sym, ap, ◌∙◌, subst, arith}
+use Rattle.std.proofs.Common.{◌≡◌, ◌⊎◌, ℕ, ◌+◌, List, length, inl, inr, refl, sym, ap, ◌∙◌, subst, arith}
 use Rattle.std.proofs.lemmas.List.{length-map}
 use Rattle.rb_num.specs.Interval.{Interval, negative_of}
 use Rattle.rb_sweep.specs.Sweep.{upward}
@@ -7,7 +7,7 @@ use Rattle.rb_sweep.proofs.Climbing.{map_upward_same, length-upward}
 use Rattle.rb_elimination.specs.Paths.{IsColumn, IsRegular}
 use Rattle.rb_elimination.specs.Solving.{IsReduced, IsDivided, IsSubstituted}
 use Rattle.rb_elimination.proofs.Related.{substituted_met}
-use Rattle.rb_flat.specs.Contact.{Constraints, HasRow, RowsFit}
+use Rattle.rb_flat.specs.Contact.{Constraints, RowsFit}
 use Rattle.rb_bordered.specs.Steps.{IsRow}
 use Rattle.rb_bordered.specs.Forces.{HaveRowFactors, AreRowSides, IsRightReduced, IsRightDivided, AreForces, AreForcesAdded}
 use Rattle.rb_work.specs.declared.names.RowFault.{RowFault}
@@ -17,7 +17,7 @@ use Rattle.rb_work.specs.Names.{one}
 use Rattle.rb_work.specs.Path.{above}
 use Rattle.rb_work.specs.View.{View, columns_of, L_at, D_at, J_at, w_at, z_at, x_at, k_at, g_at, Y_at, Z_at, l_at, C_at, e_at, lam_at}
 use Rattle.rb_tree.specs.Columns.{column_count, up_of}
-use Rattle.rb_tree.specs.Robot.{Tree, HasColumn, AreBodies}
+use Rattle.rb_tree.specs.Robot.{Tree, AreBodies}
 use Rattle.rb_tree.specs.Shape.{shape_of}
 use Rattle.rb_tree.specs.State.{Row}
 use Rattle.rb_tree.specs.Places.{IsFor}
@@ -37,7 +37,7 @@ use Rattle.rb_constraint.proofs.RowPass as RowPass
 use Rattle.rb_constraint.proofs.BiasPass as BiasPass
 use Rattle.rb_coupling.specs.Steps.{interval_row_steps}
 use Rattle.rb_coupling.specs.Couple.{IsCoupleRefused}
-use Rattle.rb_coupling.specs.Forces.{HoldsRowSides, HoldsRowForces, HoldsAddedForces, IsTotal, IsRowSideRefused, IsAddRefused, IsForceRefused, RefusesRowSides, RefusesRowForces, RefusesAddedForces}
+use Rattle.rb_coupling.specs.Forces.{HoldsRowSides, HoldsAddedForces, IsTotal, IsRowSideRefused, IsAddRefused, IsForceRefused, RefusesRowSides, RefusesRowForces, RefusesAddedForces}
 use Rattle.rb_coupling.specs.Laws.{SameRows, SameQuotients, HasOneCoupling, HaveOneForces}
 use Rattle.rb_coupling.proofs.OneCoupling.{coupling_is_one}
 use Rattle.rb_coupling.proofs.OneForce.{forces_are_one}

@@ -171,5 +171,6 @@ forced_stays tree row k u x h = record {
     right_reduced = h.row_forces.right_reduced;
     right_divided = h.row_forces.right_divided;
     forces = h.row_forces.forces;
+    kept = h.row_forces.kept;
   };
 }

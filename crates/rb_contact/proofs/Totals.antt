@@ -1,5 +1,5 @@
 -- The totals of rows or columns, and the first that is refused, are determined by what is added up.
-use Rattle.std.proofs.Common.{◌≡◌, inl, inr, ℕ, ◌<◌, ◌≤◌, Ok, Err, ap, sym, ◌∙◌, subst, arith}
+use Rattle.std.proofs.Common.{◌≡◌, inl, inr, ℕ, ◌<◌, ◌≤◌, ap, sym, ◌∙◌, arith}
 use mathlib.Core.Path.{ap₂}
 use Rattle.std.proofs.lemmas.Bool.{cases_lt}
 use Rattle.rb_result.proofs.Results.{same_ok, not-both}
