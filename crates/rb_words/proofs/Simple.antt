@@ -14,8 +14,8 @@ unfolding clap_on_literals app
 app_is_free = refl
 
 -- the command with the options, one after the other
-pub app_by_rules : with_rule (with_rule (with_rule (with_rule (with_rule (with_rule (with_rule (with_rule (new_app (codes "rbd"))
-    (required (option (codes "task")))) (required (option (codes "urdf")))) (option (codes "srdf"))) (option (codes "state"))) (option (codes "root")))
+pub app_by_rules : with_rule (with_rule (with_rule (with_rule (with_rule (with_rule (with_rule (with_rule (with_rule (new_app (codes "rbd"))
+    (required (option (codes "task")))) (required (option (codes "urdf")))) (option (codes "srdf"))) (option (codes "state"))) (option (codes "root"))) (option (codes "constraints")))
     (by_default (codes "-") (option (codes "rows")))) (by_default (codes "0,0,-9.81") (option (codes "gravity")))) (flag (codes "echo")) ≡ app
 unfolding app
 app_by_rules = refl

@@ -25,6 +25,7 @@ options =
     ∷ option (codes "srdf")
     ∷ option (codes "state")
     ∷ option (codes "root")
+    ∷ option (codes "constraints")
     ∷ by_default (codes "-") (option (codes "rows"))
     ∷ by_default (codes "0,0,-9.81") (option (codes "gravity"))
     ∷ flag (codes "echo")

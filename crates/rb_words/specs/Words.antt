@@ -87,6 +87,7 @@ pub record Asked : Type 0 where
   pub srdf : Option Text
   pub state : Option Text
   pub root : Option RootKind
+  pub constraints : Option Text
   pub rows : Text
   pub gravity : V3 Interval
   pub echo : Bool
@@ -98,6 +99,7 @@ asked_by command = record {
   srdf = option_copied command.srdf;
   state = option_copied command.state;
   root = command.root;
+  constraints = option_copied command.constraints;
   rows = command.rows.now;
   gravity = command.gravity;
   echo = command.echo;
@@ -119,6 +121,7 @@ asked_in rows =
       srdf = first_of (codes "srdf") rows;
       state = first_of (codes "state") rows;
       root = root;
+      constraints = first_of (codes "constraints") rows;
       rows = text_of (codes "rows") rows;
       gravity = gravity;
       echo = bytes_eq (text_of (codes "echo") rows) (codes "true");

@@ -23,6 +23,8 @@ pub struct Command<'a> {
     pub state: Option<&'a str>,
     /// How the root is borne; with none the SRDF file says it, and without a virtual joint there it is fixed.
     pub root: Option<RootKind>,
+    /// The name of a file of constraints; with none there is no constraint.
+    pub constraints: Option<&'a str>,
     /// The name of the file of the rows; `-` is the standard input.
     pub rows: &'a str,
     /// The gravity, in m/s².
@@ -87,6 +89,7 @@ pub(crate) fn read_options<'a>(given: &ArgMatches<'a>) -> Result<Command<'a>, Wo
         srdf: text(given, "srdf"),
         state: text(given, "state"),
         root,
+        constraints: text(given, "constraints"),
         rows: sure_text(given, "rows"),
         gravity,
         echo: sure_text(given, "echo") == "true",

@@ -24,6 +24,9 @@ const STATE: &str = "The group state that rows start from, in place of the neutr
 const ROOT: &str =
     "How the world bears the root: fixed, planar or floating, in place of what the SRDF file says";
 
+const CONSTRAINTS: &str =
+    "A file of constraints between the bodies of the robot, or with the world";
+
 const ROWS: &str =
     "The file of the rows, a table with commas whose first line names columns; - is standard input";
 
@@ -68,6 +71,7 @@ fn command<'a>(alloc: Global) -> Result<Command<'a>, AllocError>
         .arg(option(alloc, "srdf", "FILE", SRDF))?
         .arg(option(alloc, "state", "NAME", STATE))?
         .arg(option(alloc, "root", "KIND", ROOT))?
+        .arg(option(alloc, "constraints", "FILE", CONSTRAINTS))?
         .arg(rows)?
         .arg(gravity)?
         .arg(echo(alloc))

@@ -24,6 +24,7 @@ returns c =
     let three = c.in_ok-arg-3.ensures.shape c.option-5.ensures.own ∙ ap₂ with_rule two c.option-5.ensures.rule in
     let four = c.in_ok-arg-4.ensures.shape c.option-6.ensures.own ∙ ap₂ with_rule three c.option-6.ensures.rule in
     let five = c.in_ok-arg-5.ensures.shape c.option-7.ensures.own ∙ ap₂ with_rule four c.option-7.ensures.rule in
-    let six = c.in_ok-arg-6.ensures.shape (own _ _ c.default_value-rows.ensures c.option.ensures.own) ∙ ap₂ with_rule five rows_is in
-    let seven = c.in_ok-arg-7.ensures.shape (own _ _ c.default_value-gravity.ensures c.option-2.ensures.own) ∙ ap₂ with_rule six gravity_is in
-    IfOk-weaker c.arg-8.result _ _ (λ made h. h.shape c.echo.ensures.own ∙ (ap₂ with_rule seven c.echo.ensures.rule ∙ app_by_rules)) c.arg-8.ensures
+    let six = c.in_ok-arg-6.ensures.shape c.option-8.ensures.own ∙ ap₂ with_rule five c.option-8.ensures.rule in
+    let seven = c.in_ok-arg-7.ensures.shape (own _ _ c.default_value-rows.ensures c.option.ensures.own) ∙ ap₂ with_rule six rows_is in
+    let eight = c.in_ok-arg-8.ensures.shape (own _ _ c.default_value-gravity.ensures c.option-2.ensures.own) ∙ ap₂ with_rule seven gravity_is in
+    IfOk-weaker c.arg-9.result _ _ (λ made h. h.shape c.echo.ensures.own ∙ (ap₂ with_rule eight c.echo.ensures.rule ∙ app_by_rules)) c.arg-9.ensures
