@@ -30,6 +30,7 @@ fn two_options_suffice(rt: HostRuntime) -> Result<(), Fail> {
         assert!(rt; command.urdf == "-" && command.rows == "-");
         assert!(rt; command.srdf.is_none() && command.state.is_none());
         assert!(rt; command.root.is_none() && !command.echo);
+        assert!(rt; command.constraints.is_none());
         assert_eq!(rt; command.gravity.x(), Iv::ZERO);
         assert_eq!(rt; command.gravity.y(), Iv::ZERO);
         assert_eq!(rt;
@@ -49,6 +50,8 @@ fn options_come_in_any_order(rt: HostRuntime) -> Result<(), Fail> {
         "--gravity=-1..1,0, 2 ",
         "--root",
         "floating",
+        "--constraints",
+        "grips.csv",
         "--urdf=arm.urdf",
         "--rows",
         "table.csv",
@@ -67,6 +70,7 @@ fn options_come_in_any_order(rt: HostRuntime) -> Result<(), Fail> {
         assert!(rt; command.urdf == "arm.urdf" && command.rows == "table.csv");
         assert!(rt; command.srdf == Some("arm.srdf") && command.state == Some("half"));
         assert!(rt; command.root == Some(RootKind::Floating) && command.echo);
+        assert!(rt; command.constraints == Some("grips.csv"));
         assert_eq!(rt; command.gravity.x(), Iv::new(-S, S));
         assert_eq!(rt; command.gravity.z(), Iv::new(2 * S, 2 * S));
     }

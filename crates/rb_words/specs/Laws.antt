@@ -32,6 +32,7 @@ by_defaults urdf order = record {
   srdf = None;
   state = None;
   root = None;
+  constraints = None;
   rows = codes "-";
   gravity = standing_gravity;
   echo = false;
@@ -60,13 +61,14 @@ pub record Texts : Type 0 where
   pub srdf : Text
   pub state : Text
   pub root : Text
+  pub constraints : Text
   pub rows : Text
   pub gravity : Text
 
 abbrev pub all_words : Text → Texts → List Text
 all_words program texts =
-    program ∷ codes "--echo" ∷ (codes "--gravity=" ++ texts.gravity) ∷ (codes "--rows=" ++ texts.rows) ∷ (codes "--root=" ++ texts.root)
-    ∷ (codes "--state=" ++ texts.state) ∷ (codes "--srdf=" ++ texts.srdf) ∷ (codes "--urdf=" ++ texts.urdf) ∷ (codes "--task=" ++ texts.task) ∷ []
+    program ∷ codes "--echo" ∷ (codes "--gravity=" ++ texts.gravity) ∷ (codes "--rows=" ++ texts.rows) ∷ (codes "--constraints=" ++ texts.constraints)
+    ∷ (codes "--root=" ++ texts.root) ∷ (codes "--state=" ++ texts.state) ∷ (codes "--srdf=" ++ texts.srdf) ∷ (codes "--urdf=" ++ texts.urdf) ∷ (codes "--task=" ++ texts.task) ∷ []
 
 -- each text is a part of the command of its own
 abbrev pub all_command : Texts → Result Asked WordsFault
@@ -77,6 +79,7 @@ all_command texts =
       srdf = Some texts.srdf;
       state = Some texts.state;
       root = root;
+      constraints = Some texts.constraints;
       rows = texts.rows;
       gravity = gravity;
       echo = true;
