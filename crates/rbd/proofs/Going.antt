@@ -1,5 +1,5 @@
 -- The steps of a run, up to where one of them ends it.
-use Rattle.std.proofs.Common.{◌≡◌, ◌≢◌, ◌<◌, ◌≤◌, ℕ, Bool, true, false, ltb, IsTrue, List, length, Option, Some, None, IsSomeAnd, Result, Ok, Err, refl, sym, ap, ◌∙◌, ◌⊎◌, inl, inr, arith, subst}
+use Rattle.std.proofs.Common.{◌≡◌, ◌≢◌, ◌<◌, ◌≤◌, ℕ, Bool, true, false, ltb, IsTrue, List, [], length, Option, Some, None, IsSomeAnd, Result, Ok, Err, refl, sym, ap, ◌∙◌, ◌⊎◌, inl, inr, arith, subst}
 use Rattle.std.proofs.lemmas.Bool.Decides.{nat_tests}
 use Rattle.rb_io.specs.Outside.{Rose}
 use Rattle.rb_result.specs.Steps.{told_as}
@@ -14,11 +14,15 @@ use Rattle.rb_words.specs.declared.faults.WordsStop.{WordsStop}
 use Rattle.rb_words.specs.declared.faults.WordsStop.TheVariants as of_words
 use Rattle.rb_words.specs.declared.order.Order.TheVariants as order
 use Rattle.rb_words.specs.Words.{Asked, command_of}
+use Rattle.rb_words.specs.declared.order.Order.{Order}
+use Rattle.rb_constraint.specs.declared.constraints.Constraint.{Constraint}
 use Rattle.rb_run.specs.declared.job.Job.{Job}
 use Rattle.rbd.specs.declared.stop.StartStop.{StartStop}
 use Rattle.rbd.specs.declared.stop.StartStop.TheVariants as start
 use Rattle.rbd.specs.declared.stop.RobotFault.{RobotFault}
 use Rattle.rbd.specs.declared.stop.RobotFault.TheVariants as robot
+use Rattle.rbd.specs.declared.stop.ConstraintsFault.{ConstraintsFault}
+use Rattle.rbd.specs.declared.stop.ConstraintsFault.TheVariants as constraints
 use Rattle.rbd.specs.declared.stop.RowsFault.{RowsFault}
 use Rattle.rbd.specs.declared.stop.RowsFault.TheVariants as rows
 use Rattle.rbd.specs.declared.stop.ReadStop.{ReadStop}
@@ -26,13 +30,13 @@ use Rattle.rbd.specs.declared.stop.ReadStop.TheVariants as read
 use Rattle.rbd.specs.declared.stop.RowsStop.{RowsStop}
 use Rattle.rbd.specs.declared.stop.RowsStop.TheVariants as part
 use Rattle.rbd.specs.declared.stop.Stop.{Stop}
-use Rattle.rbd.specs.declared.stop.Stop.TheVariants.{Usage, Robot, Rows, Input, Output, Memory}
+use Rattle.rbd.specs.declared.stop.Stop.TheVariants.{Usage, Robot, Constraints, Rows, Input, Output, Memory}
 use Rattle.rbd.specs.declared.status.Status.{Status}
 use Rattle.rbd.specs.declared.status.Status.TheVariants as status
-use Rattle.rbd.specs.Plan.{Plan, plan, plan_of, articulated, Leads, files_of, IsRobotOf, IsRefused, IsStart, most_file}
+use Rattle.rbd.specs.Plan.{Plan, plan, plan_of, articulated, Leads, files_of, IsRobotOf, IsRefused, IsStart, IsConstraintsIn, HasNoConstraints, constraints_held, most_file}
 use Rattle.rbd.specs.Inputs.{most_rows, rows_of, rows_of_lines}
 use Rattle.rb_io.specs.Cut.{lines_of}
-use Rattle.rbd.specs.Course.{IsCourse, stopped, course_of, course_of_rows}
+use Rattle.rbd.specs.Course.{IsCourse, stopped, Course, course_by, course_of, course_of_rows}
 use Rattle.rbd.specs.Ends.{status_of}
 use Rattle.rbd.specs.Run.{Source, Stream, is_plain, Follows, EndsEarly, HasCourse, IsUsage, Obeys, Goes, IsOfCourse, IsComplete}
 use Rattle.rbd.specs.Stops.{IfFault, stop_of_read, stop_of_rows, stop_of_start, stop_of_words}
@@ -66,6 +70,7 @@ goes_memory words inputs out same kept = record {
   usage = λ fault is. absurd cc;
   usage_always = λ fault told. inr refl;
   long_file = λ file is. absurd cc;
+  long_constraints = λ is. absurd cc;
   long_rows = λ is. absurd cc;
   input = record { rose = λ is. absurd cc; kept = λ no. same };
   output = record { rose = λ is. absurd cc; kept = λ no. kept.count };
@@ -78,6 +83,7 @@ goes_input words command inputs out told rose kept = record {
   usage = λ fault is. absurd cc;
   usage_always = λ fault other. absurd (cc (told, other));
   long_file = λ file is. absurd cc;
+  long_constraints = λ is. absurd cc;
   long_rows = λ is. absurd cc;
   input = record { rose = λ is. rose; kept = λ no. absurd (no refl) };
   output = record { rose = λ is. absurd cc; kept = λ no. kept.count };
@@ -94,6 +100,7 @@ goes_words words inputs out (of_words.Fault fault) told same kept =
       usage = λ other is. let e : Words fault ≡ other = cc in subst (IsUsage words) e refused;
       usage_always = λ other is. let e : fault ≡ other = cc (refused, is) in inl (ap (λ (f : WordsFault). Err (Usage (Words f))) e);
       long_file = λ file is. absurd cc;
+      long_constraints = λ is. absurd cc;
       long_rows = λ is. absurd cc;
       input = record { rose = λ is. absurd cc; kept = λ no. same };
       output = record { rose = λ is. absurd cc; kept = λ no. kept.count };
@@ -108,6 +115,7 @@ goes_robot words command inputs out (read.Fault fault) told refused long rose sa
   usage = λ other is. absurd cc;
   usage_always = λ other is. absurd (cc (told, is));
   long_file = λ file is. let e : fault ≡ robot.TooLong file = cc in long file (ap read.Fault e);
+  long_constraints = λ is. absurd cc;
   long_rows = λ is. absurd cc;
   input = record { rose = λ is. absurd cc; kept = λ no. same (λ e. absurd cc) };
   output = record { rose = λ is. absurd cc; kept = λ no. kept.count };
@@ -135,6 +143,7 @@ goes_start words command tree inputs out stop told robot_is (inr (is, unknown)) 
       usage = λ fault e. let of_state : State ≡ fault = cc in subst (IsUsage words) of_state (record { command = command; told = told; name = name; named = named });
       usage_always = λ fault e. absurd (cc (told, e));
       long_file = λ file e. absurd cc;
+      long_constraints = λ e. absurd cc;
       long_rows = λ e. absurd cc;
       input = record { rose = λ e. absurd cc; kept = λ e. same };
       output = record { rose = λ e. absurd cc; kept = λ e. kept.count };
@@ -158,6 +167,7 @@ goes_mimic words command tree from inputs out told robot_is unfit same kept = re
   usage = λ fault e. let of_mimic : Mimic ≡ fault = cc in subst (IsUsage words) of_mimic (record { command = command; told = told; order = unfit.order });
   usage_always = λ fault e. absurd (cc (told, e));
   long_file = λ file e. absurd cc;
+  long_constraints = λ e. absurd cc;
   long_rows = λ e. absurd cc;
   input = record { rose = λ e. absurd cc; kept = λ e. same };
   output = record { rose = λ e. absurd cc; kept = λ e. kept.count };
@@ -168,12 +178,34 @@ goes_mimic words command tree from inputs out told robot_is unfit same kept = re
   });
 }
 
+-- for the constraints
+pub goes_constraints : (words : List (List ℕ)) (command : Asked) (tree : Tree) (from : Row) (inputs : Source) (out : Stream) (stop : ReadStop ConstraintsFault) → command_of words ≡ Ok command
+    → (IsTrue inputs.tells → IsRobotOf command.root (files_of command inputs.holds) tree) → IsStart tree command.gravity command.state from → Leads command.order tree
+    → (IsTrue inputs.tells → IfFault (HasNoConstraints tree (constraints_held command inputs.holds)) stop) → (stop ≡ read.Fault constraints.TooLong → most_file < inputs.given)
+    → (stop ≡ read.Input → Rose inputs.before inputs.after) → (stop ≢ read.Input → inputs.after ≡ inputs.before) → Untouched out → Goes words inputs out (Err (stop_of_read Constraints stop))
+goes_constraints words command tree from inputs out (read.Fault fault) told robot_is starts leads refused long rose same kept = record {
+  usage = λ other is. absurd cc;
+  usage_always = λ other is. absurd (cc (told, is));
+  long_file = λ file is. absurd cc;
+  long_constraints = λ is. let e : fault ≡ constraints.TooLong = cc in long (ap read.Fault e);
+  long_rows = λ is. absurd cc;
+  input = record { rose = λ is. absurd cc; kept = λ no. same (λ e. absurd cc) };
+  output = record { rose = λ is. absurd cc; kept = λ no. kept.count };
+  course = λ tells. inr (record {
+    course = stopped (Constraints fault);
+    is = IsCourse.stops (Constraints fault) (record { command = command; told = told; tree = tree; robot = robot_is tells; start = from; starts = starts; leads = leads; refused = refused tells });
+    follows = follows_stop (Constraints fault) out kept.bytes;
+  });
+}
+goes_constraints words command tree from inputs out read.Input told robot_is starts leads refused long rose same kept = goes_input words command inputs out told (rose refl) kept
+goes_constraints words command tree from inputs out read.Memory told robot_is starts leads refused long rose same kept = goes_memory words inputs out (same (λ e. absurd cc)) kept
+
 -- ---- what is asked of the robot
 -- for the bytes of the rows
 pub obeys_reading : (job : Job) (from : Row) (name : List ℕ) (inputs : Source) (out : Stream) (stop : ReadStop RowsFault) → IfFault (λ fault. fault ≡ rows.TooLong) stop
     → (IsTrue inputs.tells → stop ≡ read.Fault rows.TooLong → most_rows < length (inputs.holds name)) → (stop ≡ read.Fault rows.TooLong → most_rows < inputs.given)
     → (stop ≡ read.Input → Rose inputs.before inputs.after) → (stop ≢ read.Input → inputs.after ≡ inputs.before) → Untouched out
-    → Obeys (plan (order.Rows job.task) job.robot from name job.echo) inputs out (Err (stop_of_read Rows stop))
+    → Obeys (plan (order.Rows job.task) job.robot from [] name job.echo) inputs out (Err (stop_of_read Rows stop))
 obeys_reading job from name inputs out (read.Fault fault) only longer long rose same kept = record {
   late = refl;
   long_rows = λ is. long (ap read.Fault only);
@@ -232,27 +264,38 @@ module _ (asked : Plan) (inputs : Source) (out : Stream) (same : inputs.after �
 
 -- the rows were read whole
 pub rows_along : (job : Job) (from : Row) (name bytes : List ℕ) (inputs : Source) (out : Stream) (answer : Result Bool Stop) → (IsTrue inputs.tells → bytes ≡ inputs.holds name) → length bytes ≤ most_rows
-    → Follows (course_of_rows job from (rows_of_lines job.robot (lines_of bytes))) out answer → IsTrue inputs.tells → Follows (course_of (plan (order.Rows job.task) job.robot from name job.echo) inputs.holds) out answer
+    → Follows (course_of_rows job from (rows_of_lines job.robot (lines_of bytes))) out answer → IsTrue inputs.tells → Follows (course_of (plan (order.Rows job.task) job.robot from [] name job.echo) inputs.holds) out answer
 rows_along job from name bytes inputs out answer bytes_are short follows tells =
     subst (λ (read : List ℕ). Follows (course_of_rows job from (rows_of job.robot read)) out answer) (bytes_are tells) (rw (rows_short job.robot bytes short) follows)
 
 -- ---- behind what is asked
-module _ (words : List (List ℕ)) (command : Asked) (tree : Tree) (from : Row) (inputs inner : Source) (out : Stream) (told : command_of words ≡ Ok command)
+-- no course speaks of the constraints
+course_without : (asked : Order) (tree : Tree) (from : Row) (under : List Constraint) (name : List ℕ) (echo : Bool) (held : List ℕ → List ℕ)
+    → course_by asked (plan asked tree from [] name echo) held ≡ course_by asked (plan asked tree from under name echo) held
+course_without (order.Rows task) tree from under name echo held = refl
+course_without order.Model tree from under name echo held = refl
+course_without order.Columns tree from under name echo held = refl
+
+module _ (words : List (List ℕ)) (command : Asked) (tree : Tree) (from : Row) (under : List Constraint) (inputs inner : Source) (out : Stream) (told : command_of words ≡ Ok command)
     (robot_is : IsTrue inputs.tells → IsRobotOf command.root (files_of command inputs.holds) tree) (starts : IsStart tree command.gravity command.state from) (leads : Leads command.order tree)
+    (constraints_are : IsTrue inputs.tells → IsConstraintsIn tree (constraints_held command inputs.holds) under)
     (tells_same : inner.tells ≡ inputs.tells) (holds_same : inner.holds ≡ inputs.holds) (given_same : inner.given ≡ inputs.given) (before_same : inner.before ≡ inputs.before) (after_same : inner.after ≡ inputs.after) where
-  has_course : (answer : Result Bool Stop) → IsTrue inputs.tells → EndsEarly out answer ⊎ Follows (course_of (plan_of command tree from) inner.holds) out answer → EndsEarly out answer ⊎ HasCourse words inputs.holds out answer
+  has_course : (answer : Result Bool Stop) → IsTrue inputs.tells → EndsEarly out answer ⊎ Follows (course_of (plan_of command tree from []) inner.holds) out answer → EndsEarly out answer ⊎ HasCourse words inputs.holds out answer
   has_course answer tells (inl ends) = inl ends
   has_course answer tells (inr follows) = inr (record {
-    course = course_of (plan_of command tree from) inputs.holds;
-    is = IsCourse.goes (plan_of command tree from) (record { command = command; told = told; robot = robot_is tells; start = starts; asked = refl; leads = leads });
-    follows = subst (λ (holds : List ℕ → List ℕ). Follows (course_of (plan_of command tree from) holds) out answer) holds_same follows;
+    course = course_of (plan_of command tree from under) inputs.holds;
+    is = IsCourse.goes (plan_of command tree from under) (record { command = command; told = told; robot = robot_is tells; start = starts; constraints = constraints_are tells; asked = refl; leads = leads });
+    follows =
+        subst (λ (course : Course). Follows course out answer) (course_without command.order tree from under command.rows command.echo inputs.holds)
+        (subst (λ (holds : List ℕ → List ℕ). Follows (course_of (plan_of command tree from []) holds) out answer) holds_same follows);
   })
 
-  pub goes_obeyed : (answer : Result Bool Stop) → Obeys (plan_of command tree from) inner out answer → Goes words inputs out answer
+  pub goes_obeyed : (answer : Result Bool Stop) → Obeys (plan_of command tree from []) inner out answer → Goes words inputs out answer
   goes_obeyed answer obeys = record {
     usage = λ fault is. let late : false ≡ true = rw is at obeys.late in absurd cc;
     usage_always = λ fault is. absurd (cc (told, is));
     long_file = λ file is. let late : false ≡ true = rw is at obeys.late in absurd cc;
+    long_constraints = λ is. let late : false ≡ true = rw is at obeys.late in absurd cc;
     long_rows = λ is. rw given_same at (obeys.long_rows is);
     input = record { rose = λ is. rw (before_same, after_same) at (obeys.input.rose is); kept = λ no. sym after_same ∙ obeys.input.kept no ∙ before_same };
     output = obeys.output;
@@ -276,6 +319,7 @@ module _ (words : List (List ℕ)) (inputs : Source) (out : Stream) (ended : Sta
   complete (Ok refused) goes is tells no_in no_out = plain_complete (Ok refused) refl goes is tells
   complete (Err (Usage fault)) goes is tells no_in no_out = plain_complete (Err (Usage fault)) refl goes is tells
   complete (Err (Robot fault)) goes is tells no_in no_out = plain_complete (Err (Robot fault)) refl goes is tells
+  complete (Err (Constraints fault)) goes is tells no_in no_out = plain_complete (Err (Constraints fault)) refl goes is tells
   complete (Err (Rows fault)) goes is tells no_in no_out = plain_complete (Err (Rows fault)) refl goes is tells
   complete (Err Input) goes is tells no_in no_out = absurd (no_in (goes.input.rose refl))
   complete (Err Output) goes is tells no_in no_out = absurd (no_out (goes.output.rose refl))

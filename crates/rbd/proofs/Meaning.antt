@@ -25,7 +25,7 @@ use Rattle.rb_words.specs.declared.order.Order.TheVariants as order
 use Rattle.rbd.specs.declared.stop.RowsFault.{RowsFault}
 use Rattle.rbd.specs.declared.stop.RowsFault.TheVariants.{LineTooLong}
 use Rattle.rbd.specs.declared.stop.Stop.{Stop}
-use Rattle.rbd.specs.declared.stop.Stop.TheVariants.{Usage, Robot, Rows as AtRows, Input as AtInput, Output, Memory}
+use Rattle.rbd.specs.declared.stop.Stop.TheVariants.{Usage, Robot, Constraints, Rows as AtRows, Input as AtInput, Output, Memory}
 use Rattle.rbd.specs.declared.status.Status.{Status}
 use Rattle.rbd.specs.declared.status.Status.TheVariants as status
 use Rattle.rbd.specs.Course.{Course, IsCourse, tells, ending, slots_of, lines_of, course_by, course_of_rows}
@@ -150,6 +150,8 @@ stop_not_done (Usage fault) ended is (inl done) = let e : status.Usage ≡ statu
 stop_not_done (Usage fault) ended is (inr done) = let e : status.Usage ≡ status.Refused = sym is ∙ done in absurd cc
 stop_not_done (Robot fault) ended is (inl done) = let e : status.Robot ≡ status.Done = sym is ∙ done in absurd cc
 stop_not_done (Robot fault) ended is (inr done) = let e : status.Robot ≡ status.Refused = sym is ∙ done in absurd cc
+stop_not_done (Constraints fault) ended is (inl done) = let e : status.Robot ≡ status.Done = sym is ∙ done in absurd cc
+stop_not_done (Constraints fault) ended is (inr done) = let e : status.Robot ≡ status.Refused = sym is ∙ done in absurd cc
 stop_not_done (AtRows fault) ended is (inl done) = let e : status.Rows ≡ status.Done = sym is ∙ done in absurd cc
 stop_not_done (AtRows fault) ended is (inr done) = let e : status.Rows ≡ status.Refused = sym is ∙ done in absurd cc
 stop_not_done AtInput ended is (inl done) = let e : status.InputFault ≡ status.Done = sym is ∙ done in absurd cc

@@ -1,4 +1,4 @@
--- Why a robot's files are refused.
+-- Why a robot's files are refused, and its constraints.
 use Rattle.std.proofs.Common.{◌≡◌, ◌<◌, ◌≤◌, ℕ, true, false, List, length, Option, Some, option_map, Result, Ok, Err, refl, sym, ◌⊎◌, inl, inr, ltb, arith, subst}
 use Rattle.std.proofs.lemmas.Bool.Decides.{nat_tests}
 use Rattle.rb_result.specs.Steps.{told_as}
@@ -31,15 +31,23 @@ use Rattle.rb_tree.specs.declared.faults.WhichFile.TheVariants as file
 use Rattle.rb_tree.specs.Build.{Source}
 use Rattle.rb_tree.specs.Refusals.{HasFault}
 use Rattle.rb_tree.specs.Faults as Tree
+use Rattle.rb_tree.specs.Robot.{Tree}
+use Rattle.rb_constraint.specs.declared.faults.ConFault.{ConFault}
+use Rattle.rb_constraint.specs.declared.faults.ConKind.{ConKind}
+use Rattle.rb_constraint.specs.declared.faults.ConKind.TheVariants as con_kind
+use Rattle.rb_constraint.specs.Faults as Con
+use Rattle.rb_constraint.specs.Refusals as Constraints
+use Rattle.rbd.specs.declared.stop.ConstraintsFault.{ConstraintsFault}
+use Rattle.rbd.specs.declared.stop.ConstraintsFault.TheVariants as wrong
 use Rattle.rbd.specs.declared.stop.RobotFault.{RobotFault}
 use Rattle.rbd.specs.declared.stop.RobotFault.TheVariants as why
 use Rattle.rbd.specs.declared.stop.Refusal.{Refusal}
 use Rattle.rbd.specs.declared.stop.Refusal.TheVariants as refusal
 use Rattle.rbd.specs.declared.stop.ReadStop.{ReadStop}
 use Rattle.rbd.specs.declared.stop.ReadStop.TheVariants as read
-use Rattle.rbd.specs.Plan.{most_file, Files, files, tags_in, urdf_in, IsSemanticsIn, HasNoSemantics, IsRefusedBy, IsSource, IsUnfit, IsRefused}
+use Rattle.rbd.specs.Plan.{most_file, Files, files, tags_in, urdf_in, IsSemanticsIn, HasNoSemantics, IsRefusedBy, IsSource, IsUnfit, IsRefused, HasNoConstraints}
 use Rattle.rbd.specs.Stops as stops
-use Rattle.rbd.specs.Stops.{IfRefused, IfFault, file_stop, refusal_of_tags, refusal_of_urdf, refusal_of_srdf, refusal_of_tree, stop_of_refusal}
+use Rattle.rbd.specs.Stops.{IfRefused, IfFault, file_stop, refusal_of_tags, refusal_of_urdf, refusal_of_srdf, refusal_of_tree, stop_of_refusal, stop_of_con}
 
 -- ---- the tags of a file
 tags_short : (file : WhichFile) (bytes : List ℕ) → length bytes ≤ most_file → tags_in file bytes ≡ told_as (why.Tags file) (tags_of bytes)
@@ -207,3 +215,44 @@ module _ (root : Option RootKind) (files : Files) where
 
 pub unfit_not_long : (which : WhichFile) (source : Source) (refused : Refusal RobotFault) → IfRefused (IsUnfit source) refused → stop_of_refusal refused ≡ read.Fault (why.TooLong which) → ⊥
 unfit_not_long which source refused is same = fault_of (IsUnfit source) refused (why.TooLong which) is same
+
+-- ---- the constraints
+-- a file of constraints that is not read
+pub constraints_unread : (tree : Tree) (bytes : List ℕ) (fault : FileFault) (stop : ReadStop ConstraintsFault) → stop ≡ file_stop fault wrong.TooLong → (fault ≡ reading.TooLong → most_file < length bytes)
+    → IfFault (HasNoConstraints tree (Some bytes)) stop
+constraints_unread tree bytes reading.TooLong stop is long = rw is (long refl)
+constraints_unread tree bytes reading.Failed stop is long = rw is tt
+constraints_unread tree bytes reading.Memory stop is long = rw is tt
+
+-- where it holds too much
+pub long_constraints : (fault : FileFault) (stop : ReadStop ConstraintsFault) → stop ≡ file_stop fault wrong.TooLong → stop ≡ read.Fault wrong.TooLong → fault ≡ reading.TooLong
+long_constraints reading.TooLong stop is same = refl
+long_constraints reading.Failed stop is same = absurd cc
+long_constraints reading.Memory stop is same = absurd cc
+
+-- where the input failed
+pub lost_constraints : (fault : FileFault) (stop : ReadStop ConstraintsFault) → stop ≡ file_stop fault wrong.TooLong → stop ≡ read.Input → fault ≡ reading.Failed
+lost_constraints reading.TooLong stop is same = absurd cc
+lost_constraints reading.Failed stop is same = refl
+lost_constraints reading.Memory stop is same = absurd cc
+
+of_con_kind : (kind : ConKind) (P : ConstraintsFault → Type 0) (fault : ConstraintsFault) → P fault → IfFault P (stops.con_kind kind fault)
+of_con_kind con_kind.Memory P fault is = tt
+of_con_kind kind P fault is = is
+
+-- its bytes are refused, or no memory was found for them
+pub constraints_refused : (tree : Tree) (bytes : List ℕ) (fault : ConFault) → length bytes ≤ most_file → (fault ≡ Con.no_memory) ⊎ Constraints.HasFault tree bytes fault
+    → IfFault (HasNoConstraints tree (Some bytes)) (stop_of_con fault)
+constraints_refused tree bytes fault short (inl is) = rw is tt
+constraints_refused tree bytes fault short (inr has) = of_con_kind fault.kind (HasNoConstraints tree (Some bytes)) (wrong.File fault) (record { short = short; refused = has })
+
+of_con_other : (kind : ConKind) (fault : ConFault) (other : ReadStop ConstraintsFault) → (read.Memory ≡ other → ⊥) → (read.Fault (wrong.File fault) ≡ other → ⊥) → stops.con_kind kind (wrong.File fault) ≡ other → ⊥
+of_con_other con_kind.Memory fault other memory file is = memory is
+of_con_other kind fault other memory file is = file is
+
+-- they are not too long, and no input fails over them
+pub con_not_long : (fault : ConFault) → stop_of_con fault ≡ read.Fault wrong.TooLong → ⊥
+con_not_long fault is = of_con_other fault.kind fault (read.Fault wrong.TooLong) (λ e. absurd cc) (λ e. let f : wrong.File fault ≡ wrong.TooLong = cc in absurd cc) is
+
+pub con_not_lost : (fault : ConFault) → stop_of_con fault ≡ read.Input → ⊥
+con_not_lost fault is = of_con_other fault.kind fault read.Input (λ e. let f : read.Memory ≡ read.Input = cc in absurd cc) (λ e. absurd cc) is

@@ -5,7 +5,7 @@ use Rattle.rb_words.specs.declared.faults.WordsStop.{WordsStop}
 use Rattle.rb_words.specs.declared.faults.WordsStop.TheVariants as stop
 use Rattle.rbd.specs.declared.stop.UsageFault.TheVariants as usage
 use Rattle.rbd.specs.declared.stop.Stop.{Stop}
-use Rattle.rbd.specs.declared.stop.Stop.TheVariants.{Usage, Robot, Rows, Input, Output, Memory}
+use Rattle.rbd.specs.declared.stop.Stop.TheVariants.{Usage, Robot, Constraints, Rows, Input, Output, Memory}
 use Rattle.rbd.specs.Run.{IsRest}
 use Rattle.rbd.specs.Stops.{stop_of_words}
 
@@ -19,6 +19,7 @@ rest_none (Err (Usage (usage.Words words_fault.Gravity))) none = none
 rest_none (Err (Usage usage.State)) none = none
 rest_none (Err (Usage usage.Mimic)) none = none
 rest_none (Err (Robot fault)) none = none
+rest_none (Err (Constraints fault)) none = none
 rest_none (Err (Rows fault)) none = none
 rest_none (Err Input) none = none
 rest_none (Err Output) none = none

@@ -1,5 +1,5 @@
 -- What a run goes by, from its words and from what the names hold; or the first thing for which it has none.
-use Rattle.std.specs.Prelude.{◌≡◌, true, false, ◌⊎◌, ℕ, List, Bool, nat_lt, if◌then◌else◌, length, Option, Some, None, Result, Ok, Err}
+use Rattle.std.specs.Prelude.{◌≡◌, ◌≤◌, ◌<◌, true, false, ◌⊎◌, ℕ, List, [], Bool, nat_lt, if◌then◌else◌, length, Option, Some, None, Result, Ok, Err}
 use Rattle.std.specs.Option.{option_map}
 use Rattle.rb_frac.specs.Ops.{V3}
 use Rattle.rb_num.specs.Interval.{Interval}
@@ -21,6 +21,10 @@ use Rattle.rb_tree.specs.declared.faults.WhichFile.{WhichFile}
 use Rattle.rb_tree.specs.declared.faults.WhichFile.TheVariants as file
 use Rattle.rb_tree.specs.Build.{Source, IsBuilt}
 use Rattle.rb_tree.specs.Refusals.{HasFault}
+use Rattle.rb_constraint.specs.declared.constraints.Constraint.{Constraint}
+use Rattle.rb_constraint.specs.declared.faults.ConFault.{ConFault}
+use Rattle.rb_constraint.specs.File.{IsFile}
+use Rattle.rb_constraint.specs.Refusals as Constraints
 use Rattle.rb_rows.specs.declared.task.Task.{Task}
 use Rattle.rb_rows.specs.declared.task.Task.TheVariants as task
 use Rattle.rb_run.specs.declared.job.Job.{Job}
@@ -29,12 +33,14 @@ use Rattle.rb_words.specs.declared.order.Order.TheVariants as order
 use Rattle.rb_words.specs.Words.{Asked, command_of}
 use Rattle.rbd.specs.declared.stop.RobotFault.{RobotFault}
 use Rattle.rbd.specs.declared.stop.RobotFault.TheVariants as why
+use Rattle.rbd.specs.declared.stop.ConstraintsFault.{ConstraintsFault}
+use Rattle.rbd.specs.declared.stop.ConstraintsFault.TheVariants as wrong
 use Rattle.rbd.specs.declared.stop.UsageFault.{UsageFault}
 use Rattle.rbd.specs.declared.stop.UsageFault.TheVariants.{State, Mimic, Words}
 use Rattle.rbd.specs.declared.stop.Stop.{Stop}
-use Rattle.rbd.specs.declared.stop.Stop.TheVariants.{Usage, Robot as AtRobot, Rows, Input, Output, Memory}
+use Rattle.rbd.specs.declared.stop.Stop.TheVariants.{Usage, Robot as AtRobot, Constraints as AtConstraints, Rows, Input, Output, Memory}
 
--- the most bytes of a robot's file
+-- the most bytes of a file of the robot or of constraints
 abbrev pub most_file : ℕ
 most_file = 8388608
 
@@ -132,20 +138,48 @@ abbrev pub IsStart : Tree → V3 Interval → Option (List ℕ) → Row → Type
 IsStart tree gravity None start = start ≡ neutral_under gravity tree
 IsStart tree gravity (Some name) start = IsNamed tree gravity name start
 
+-- ---- the constraints
+-- those of a file for a robot
+pub record IsConstraintsFile (tree : Tree) (bytes : List ℕ) (constraints : List Constraint) : Type 0 where
+  pub short : length bytes ≤ most_file
+  pub is : IsFile tree bytes constraints
+
+-- of the file where it is given, else none
+abbrev pub IsConstraintsIn : Tree → Option (List ℕ) → List Constraint → Type 0
+IsConstraintsIn tree None constraints = constraints ≡ []
+IsConstraintsIn tree (Some bytes) constraints = IsConstraintsFile tree bytes constraints
+
+-- one says none, for this first fault
+pub record IsRefusedFile (tree : Tree) (bytes : List ℕ) (fault : ConFault) : Type 0 where
+  pub short : length bytes ≤ most_file
+  pub refused : Constraints.HasFault tree bytes fault
+
+-- what is wrong with the file where it is given
+abbrev pub HasNoConstraints : Tree → Option (List ℕ) → ConstraintsFault → Type 0
+HasNoConstraints tree None fault = ⊥
+HasNoConstraints tree (Some bytes) wrong.TooLong = most_file < length bytes
+HasNoConstraints tree (Some bytes) (wrong.File fault) = IsRefusedFile tree bytes fault
+
+abbrev pub constraints_held : Asked → (List ℕ → List ℕ) → Option (List ℕ)
+constraints_held command held = option_map held command.constraints
+
 -- ---- the plan
--- what is asked for, of which robot, from which state, from the rows of which name, and whether the numbers of each row are told with its answer
+-- what is asked for, of which robot, from which state, under which constraints, from the rows of which name, and whether the numbers of each row are
+-- told with its answer
 pub record Plan : Type 0 where
   pub order : Order
   pub tree : Tree
   pub start : Row
+  pub constraints : List Constraint
   pub rows : List ℕ
   pub echo : Bool
 
-abbrev pub plan : Order → Tree → Row → List ℕ → Bool → Plan
-plan order tree start rows echo = record { order = order; tree = tree; start = start; rows = rows; echo = echo }
+abbrev pub plan : Order → Tree → Row → List Constraint → List ℕ → Bool → Plan
+plan order tree start constraints rows echo =
+    record { order = order; tree = tree; start = start; constraints = constraints; rows = rows; echo = echo }
 
-abbrev pub plan_of : Asked → Tree → Row → Plan
-plan_of command tree start = plan command.order tree start command.rows command.echo
+abbrev pub plan_of : Asked → Tree → Row → List Constraint → Plan
+plan_of command tree start constraints = plan command.order tree start constraints command.rows command.echo
 
 -- what is asked of each row
 abbrev pub job_of : Plan → Task → Job
@@ -158,13 +192,14 @@ articulated = order.Rows task.Aba
 abbrev pub Leads : Order → Tree → Type 0
 Leads asked tree = asked ≡ articulated → has_mimic tree.bodies ≡ false
 
--- the words name files, and the plan's robot and state are theirs; the robot is fit for what is asked
+-- the words name files, and the plan's robot, state and constraints are theirs; the robot is fit for what is asked
 pub record IsPlan (words : List (List ℕ)) (held : List ℕ → List ℕ) (plan : Plan) : Type 0 where
   pub command : Asked
   pub told : command_of words ≡ Ok command
   pub robot : IsRobotOf command.root (files_of command held) plan.tree
   pub start : IsStart plan.tree command.gravity command.state plan.start
-  pub asked : plan ≡ plan_of command plan.tree plan.start
+  pub constraints : IsConstraintsIn plan.tree (constraints_held command held) plan.constraints
+  pub asked : plan ≡ plan_of command plan.tree plan.start plan.constraints
   pub leads : Leads plan.order plan.tree
 
 -- the words name files, which have this fault
@@ -194,6 +229,17 @@ pub record HasFollower (words : List (List ℕ)) (held : List ℕ → List ℕ) 
   pub order : command.order ≡ articulated
   pub mimic : has_mimic tree.bodies ≡ true
 
+-- the words name a file of constraints that has this fault, and all else is fit
+pub record HasBadConstraints (words : List (List ℕ)) (held : List ℕ → List ℕ) (fault : ConstraintsFault) : Type 0 where
+  pub command : Asked
+  pub told : command_of words ≡ Ok command
+  pub tree : Tree
+  pub robot : IsRobotOf command.root (files_of command held) tree
+  pub start : Row
+  pub starts : IsStart tree command.gravity command.state start
+  pub leads : Leads command.order tree
+  pub refused : HasNoConstraints tree (constraints_held command held) fault
+
 abbrev pub IsMisused : List (List ℕ) → (List ℕ → List ℕ) → UsageFault → Type 0
 IsMisused words held State = HasNoState words held
 IsMisused words held Mimic = HasFollower words held
@@ -203,6 +249,7 @@ IsMisused words held (Words fault) = command_of words ≡ Err fault
 abbrev pub HasNoPlan : List (List ℕ) → (List ℕ → List ℕ) → Stop → Type 0
 HasNoPlan words held (Usage fault) = IsMisused words held fault
 HasNoPlan words held (AtRobot fault) = HasNoRobot words held fault
+HasNoPlan words held (AtConstraints fault) = HasBadConstraints words held fault
 HasNoPlan words held (Rows fault) = ⊥
 HasNoPlan words held Input = ⊥
 HasNoPlan words held Output = ⊥

@@ -9,9 +9,10 @@ use Rattle.rb_words.specs.declared.faults.WordsFault.{WordsFault}
 use Rattle.rb_words.specs.declared.faults.WordsFault.TheVariants as words_fault
 use Rattle.rb_words.specs.Words.{Asked, command_of}
 use Rattle.rbd.specs.declared.stop.RobotFault.TheVariants as robot
+use Rattle.rbd.specs.declared.stop.ConstraintsFault.TheVariants as constraints
 use Rattle.rbd.specs.declared.stop.RowsFault.TheVariants as rows
 use Rattle.rbd.specs.declared.stop.Stop.{Stop}
-use Rattle.rbd.specs.declared.stop.Stop.TheVariants.{Usage, Robot, Rows, Input, Output, Memory}
+use Rattle.rbd.specs.declared.stop.Stop.TheVariants.{Usage, Robot, Constraints, Rows, Input, Output, Memory}
 use Rattle.rbd.specs.declared.status.Status.{Status}
 use Rattle.rbd.specs.declared.status.Status.TheVariants as status
 use Rattle.rbd.specs.Plan.{Plan, articulated, most_file}
@@ -51,6 +52,7 @@ abbrev pub is_plain : Result Bool Stop → Bool
 is_plain (Ok refused) = true
 is_plain (Err (Usage fault)) = true
 is_plain (Err (Robot fault)) = true
+is_plain (Err (Constraints fault)) = true
 is_plain (Err (Rows fault)) = true
 is_plain (Err Input) = false
 is_plain (Err Output) = false
@@ -79,13 +81,14 @@ pub record HasCourse (words : List (List ℕ)) (held : List ℕ → List ℕ) (o
   pub follows : Follows course out answer
 
 -- ---- what is asked of a robot
--- the answer comes neither from the words nor from the robot
+-- the answer comes neither from the words nor from the robot, nor from the constraints
 abbrev pub is_late : Result Bool Stop → Bool
 is_late (Err (Usage fault)) = false
 is_late (Err (Robot fault)) = false
+is_late (Err (Constraints fault)) = false
 is_late answer = true
 
--- the steps behind the robot
+-- the steps behind the constraints
 pub record Obeys (plan : Plan) (inputs : Source) (out : Stream) (answer : Result Bool Stop) : Type 0 where
   pub late : IsTrue (is_late answer)
   pub long_rows : answer ≡ Err (Rows rows.TooLong) → most_rows < inputs.given
@@ -119,6 +122,7 @@ pub record Goes (words : List (List ℕ)) (inputs : Source) (out : Stream) (answ
   pub usage : (fault : UsageFault) → answer ≡ Err (Usage fault) → IsUsage words fault
   pub usage_always : (fault : WordsFault) → command_of words ≡ Err fault → (answer ≡ Err (Usage (misuse.Words fault))) ⊎ (answer ≡ Err Memory)
   pub long_file : (file : WhichFile) → answer ≡ Err (Robot (robot.TooLong file)) → most_file < inputs.given
+  pub long_constraints : answer ≡ Err (Constraints constraints.TooLong) → most_file < inputs.given
   pub long_rows : answer ≡ Err (Rows rows.TooLong) → most_rows < inputs.given
   pub input : Counts Input answer inputs.before inputs.after
   pub output : Counts Output answer out.before out.after

@@ -12,6 +12,9 @@ use Rattle.rb_tree.specs.declared.faults.WhichFile.{WhichFile}
 use Rattle.rb_tree.specs.declared.faults.TreeFault.{TreeFault}
 use Rattle.rb_tree.specs.declared.faults.TreeKind.{TreeKind}
 use Rattle.rb_tree.specs.declared.faults.TreeKind.TheVariants as tree
+use Rattle.rb_constraint.specs.declared.faults.ConFault.{ConFault}
+use Rattle.rb_constraint.specs.declared.faults.ConKind.{ConKind}
+use Rattle.rb_constraint.specs.declared.faults.ConKind.TheVariants as con
 use Rattle.rb_rows.specs.declared.faults.HeaderFault.{HeaderFault}
 use Rattle.rb_rows.specs.declared.faults.HeaderKind.{HeaderKind}
 use Rattle.rb_rows.specs.declared.faults.HeaderKind.TheVariants as header
@@ -21,6 +24,8 @@ use Rattle.rb_io.specs.declared.calls.FileFault.{FileFault}
 use Rattle.rb_io.specs.declared.calls.FileFault.TheVariants as file
 use Rattle.rbd.specs.declared.stop.RobotFault.{RobotFault}
 use Rattle.rbd.specs.declared.stop.RobotFault.TheVariants as robot
+use Rattle.rbd.specs.declared.stop.ConstraintsFault.{ConstraintsFault}
+use Rattle.rbd.specs.declared.stop.ConstraintsFault.TheVariants as wrong
 use Rattle.rbd.specs.declared.stop.Refusal.{Refusal}
 use Rattle.rbd.specs.declared.stop.Refusal.TheVariants as refusal
 use Rattle.rbd.specs.declared.stop.ReadStop.{ReadStop}
@@ -87,6 +92,14 @@ stop_of_header fault = header_kind fault.kind (RowsFault.Header fault)
 abbrev pub stop_of_words : WordsStop → Stop
 stop_of_words (words.Fault fault) = Usage (Words fault)
 stop_of_words words.Memory = Memory
+
+abbrev pub con_kind : ConKind → ConstraintsFault → ReadStop ConstraintsFault
+con_kind con.Memory fault = read.Memory
+con_kind kind fault = read.Fault fault
+
+-- of reading constraints
+abbrev pub stop_of_con : ConFault → ReadStop ConstraintsFault
+stop_of_con fault = con_kind fault.kind (wrong.File fault)
 
 abbrev pub stop_of_refusal : {F : Type 0} → Refusal F → ReadStop F
 stop_of_refusal (refusal.Fault fault) = read.Fault fault

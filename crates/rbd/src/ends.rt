@@ -1,11 +1,13 @@
 //! The status and the line on standard error of an answer.
 ghost use Rattle.std.specs.Prelude.{◌≡◌, ◌≤◌, ◌+◌, ◌++◌, length, codes, decimal, Result, Ok, Err};
+ghost use Rattle.rb_constraint.specs.Faults.{fault_text as con_text};
 ghost use Rattle.rb_rows.specs.Faults.{header_text};
 ghost use Rattle.rb_tree.specs.Faults.{fault_text as tree_text};
-ghost use Rattle.rbd.specs.Ends.{status_of, usage_word, in_file, robot_text, rows_text, stop_text, text_of};
+ghost use Rattle.rbd.specs.Ends.{status_of, usage_word, in_file, robot_text, constraints_text, rows_text, stop_text, text_of};
 
 use crate::status::Status;
-use crate::stop::{RobotFault, RowsFault, Stop, UsageFault};
+use crate::stop::{ConstraintsFault, RobotFault, RowsFault, Stop, UsageFault};
+use rb_constraint::ConFault;
 use rb_rows::HeaderFault;
 use rb_run::put_number;
 use rb_text::Out;
@@ -19,7 +21,7 @@ pub(crate) fn status(answer: &Result<bool, Stop>) -> Status
         Ok(false) => Status::Done,
         Ok(true) => Status::Refused,
         Err(Stop::Usage(_)) => Status::Usage,
-        Err(Stop::Robot(_)) => Status::Robot,
+        Err(Stop::Robot(_) | Stop::Constraints(_)) => Status::Robot,
         Err(Stop::Rows(_)) => Status::Rows,
         Err(Stop::Input) => Status::InputFault,
         Err(Stop::Output) => Status::OutputFault,
@@ -125,6 +127,30 @@ fn put_robot_fault(fault: &RobotFault, line: &mut Out)
     }
 }
 
+// Puts a fault of a file of constraints: its word and its line.
+#[tactic(auto, using(std::proofs::Common::append_assoc))]
+fn put_con_fault(fault: ConFault, line: &mut Out)
+    requires { 60 ≤ line.old.spare }
+    ensures bytes { line.new.bytes ≡ line.old.bytes ++ (codes "constraints: " ++ con_text fault) }
+    ensures spare { line.old.spare ≤ line.new.spare + 60 }
+{
+    line.put(b"constraints: ");
+    line.put(fault.kind.word().as_bytes());
+    line.put(b" at line ");
+    put_number(u64::from(fault.line), line);
+}
+
+fn put_constraints_fault(fault: ConstraintsFault, line: &mut Out)
+    requires { 60 ≤ line.old.spare }
+    ensures bytes { line.new.bytes ≡ line.old.bytes ++ constraints_text fault }
+    ensures spare { line.old.spare ≤ line.new.spare + 60 }
+{
+    match fault {
+        ConstraintsFault::TooLong => line.put(b"constraints: TooLong"),
+        ConstraintsFault::File(fault) => put_con_fault(fault, line),
+    }
+}
+
 #[tactic(auto, using(std::proofs::Common::append_assoc))]
 fn put_long_line(row: u64, line: &mut Out)
     requires { 60 ≤ line.old.spare }
@@ -167,6 +193,7 @@ fn put_stop(stop: &Stop, line: &mut Out)
     match stop {
         Stop::Usage(fault) => put_usage_fault(*fault, line),
         Stop::Robot(fault) => put_robot_fault(fault, line),
+        Stop::Constraints(fault) => put_constraints_fault(*fault, line),
         Stop::Rows(fault) => put_rows_fault(fault, line),
         Stop::Input => line.put(b"input failed"),
         Stop::Output => line.put(b"output failed"),

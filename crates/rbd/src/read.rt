@@ -1,5 +1,5 @@
-//! Reading the robot's files and the rows whole.
-ghost use Rattle.std.specs.Prelude.{◌≡◌, ℕ, ◌≤◌, ◌<◌, ◌⊎◌, IsTrue, IsErrOf, length, option_map, option_copied, IfOk, IfErr, Result, Ok, Err};
+//! Reading the robot's files, the constraints and the rows whole.
+ghost use Rattle.std.specs.Prelude.{◌≡◌, ℕ, ◌≤◌, ◌<◌, ◌⊎◌, IsTrue, IsErrOf, length, option_map, option_copied, IfOk, IfErr, Some, Result, Ok, Err};
 ghost use Rattle.std.specs.Str.{IsUtf8};
 ghost use Rattle.std.specs.Option.{IsSomeAnd};
 ghost use Rattle.rb_result.specs.Steps.{told_as};
@@ -12,11 +12,14 @@ ghost use Rattle.rb_tree.specs.Build.{IsBuilt};
 ghost use Rattle.rb_tree.specs.Robot.{AreBodies};
 ghost use Rattle.rb_tree.specs.State.{Fits, neutral_under};
 ghost use Rattle.rb_tree.specs.States.{HasState};
-ghost use Rattle.rbd.specs.Plan.{tags_in, urdf_in, files, IsSemanticsIn, HasNoSemantics, IsRefusedBy, IsUnfit, IsRobotOf, IsRefused, IsStart, most_file};
+ghost use Rattle.rbd.specs.Plan.{tags_in, urdf_in, files, IsSemanticsIn, HasNoSemantics, IsRefusedBy, IsUnfit, IsRobotOf, IsRefused, IsStart, IsConstraintsFile, IsConstraintsIn, HasNoConstraints, most_file};
 ghost use Rattle.rbd.specs.Inputs.{most_rows};
 ghost use Rattle.rbd.specs.Stops.{IfFault, IfRefused, file_stop};
 
-use crate::stop::{ReadStop, Refusal, RobotFault, RowsFault, StartStop, of_tags};
+use crate::stop::{
+    ConstraintsFault, ReadStop, Refusal, RobotFault, RowsFault, StartStop, of_con, of_tags,
+};
+use rb_constraint::{Constraints, read_constraints};
 use rb_io::{Bytes, FileFault, Inputs, read_all};
 use rb_spatial::Vec3;
 use rb_srdf::{Srdf, read_srdf};
@@ -25,7 +28,7 @@ use rb_tree::{Robot, State, WhichFile};
 use rb_urdf::{UrdfRobot, read_urdf};
 use std::alloc::{AllocError, Global};
 
-/// The most bytes of a robot's file.
+/// The most bytes of a file of the robot or of constraints.
 pub(crate) const MOST_FILE: u64 = 8_388_608;
 
 /// The most bytes of the rows.
@@ -200,6 +203,52 @@ pub(crate) fn start_of(
     match start.set_named(robot, name.as_bytes()) {
         Ok(()) => Ok(start),
         Err(_) => Err(StartStop::NoState),
+    }
+}
+
+/// Reads the constraints of a file.
+fn read_constraints_in<I: Inputs>(
+    alloc: Global,
+    inputs: &mut I,
+    robot: &Robot,
+    name: &str,
+) -> Result<Constraints, ReadStop<ConstraintsFault>>
+    ensures tells { I.tells inputs.new ≡ I.tells inputs.old }
+    ensures holds { I.holds inputs.new ≡ I.holds inputs.old }
+    ensures constraints { IsTrue (I.tells inputs.old) → IfOk result (IsConstraintsFile robot.now (I.holds inputs.old name.now)) }
+    ensures refused { IsTrue (I.tells inputs.old) → IfErr result (IfFault (HasNoConstraints robot.now (Some (I.holds inputs.old name.now)))) }
+    ensures long { IsErrOf result (ReadStop.Fault ConstraintsFault.TooLong) → most_file < I.given inputs.new }
+    ensures rose { IsErrOf result ReadStop.Input → Rose (I.faults inputs.old) (I.faults inputs.new) }
+    ensures kept { ¬ (IsErrOf result ReadStop.Input) → I.faults inputs.new ≡ I.faults inputs.old }
+{
+    let bytes = match read_all(alloc, inputs, name, MOST_FILE) {
+        Ok(bytes) => bytes,
+        Err(fault) => return Err(file_stop(fault, ConstraintsFault::TooLong)),
+    };
+    match read_constraints(alloc, bytes.as_slice(), robot) {
+        Ok(constraints) => Ok(constraints),
+        Err(fault) => Err(of_con(fault)),
+    }
+}
+
+/// Reads the constraints of a file, where its name is given. With none there is no constraint.
+pub(crate) fn read_constraints_of<I: Inputs>(
+    alloc: Global,
+    inputs: &mut I,
+    robot: &Robot,
+    name: Option<&str>,
+) -> Result<Constraints, ReadStop<ConstraintsFault>>
+    ensures tells { I.tells inputs.new ≡ I.tells inputs.old }
+    ensures holds { I.holds inputs.new ≡ I.holds inputs.old }
+    ensures constraints { IsTrue (I.tells inputs.old) → IfOk result (IsConstraintsIn robot.now (option_map (λ name. I.holds inputs.old name) (option_copied name.entry))) }
+    ensures refused { IsTrue (I.tells inputs.old) → IfErr result (IfFault (HasNoConstraints robot.now (option_map (λ name. I.holds inputs.old name) (option_copied name.entry)))) }
+    ensures long { IsErrOf result (ReadStop.Fault ConstraintsFault.TooLong) → most_file < I.given inputs.new }
+    ensures rose { IsErrOf result ReadStop.Input → Rose (I.faults inputs.old) (I.faults inputs.new) }
+    ensures kept { ¬ (IsErrOf result ReadStop.Input) → I.faults inputs.new ≡ I.faults inputs.old }
+{
+    match name {
+        None => Ok(Constraints::none(alloc)),
+        Some(name) => read_constraints_in(alloc, inputs, robot, name),
     }
 }
 

@@ -1,4 +1,4 @@
-//! A run: the words, the robot's files, and what is asked of the robot.
+//! A run: the words, the robot's files, its constraints, and what is asked of the robot.
 ghost use Rattle.std.specs.Prelude.{◌≡◌, ◌⊎◌, ◌++◌, [], Bool, true, false, IsTrue, IsErrOf, map, string_bytes, Result};
 ghost use Rattle.rb_io.specs.Outside.{Rose};
 ghost use Rattle.rb_io.specs.Calls.{PutsPart};
@@ -18,10 +18,12 @@ ghost use Rattle.rbd.specs.Headline.{Headline};
 
 use crate::ends::{no_memory, put_text, status};
 use crate::put::put;
-use crate::read::{read_robot, read_rows, start_of};
+use crate::read::{read_constraints_of, read_robot, read_rows, start_of};
 use crate::rows::answer_all;
 use crate::status::Status;
-use crate::stop::{RowsStop, Stop, UsageFault, of_reading, of_robot, of_rows, of_start, of_words};
+use crate::stop::{
+    RowsStop, Stop, UsageFault, of_constraints, of_reading, of_robot, of_rows, of_start, of_words,
+};
 use rb_io::{Inputs, Sink, put_all};
 use rb_model::model_text;
 use rb_rows::column_line;
@@ -74,7 +76,7 @@ fn answer_rows<I: Inputs, O: Sink>(
     requires task { IsJob job.now }
     requires start { Fits job.now.robot start.now }
     ensures tells { IsTrue (O.tells out.new) → IsTrue (O.tells out.old) }
-    ensures obeys { Obeys (plan (Order.Rows job.now.task) job.now.robot start.now name.now job.now.echo)
+    ensures obeys { Obeys (plan (Order.Rows job.now.task) job.now.robot start.now [] name.now job.now.echo)
         (source I.tells I.holds I.given I.faults inputs.old inputs.new) (stream O.tells O.put O.faults out.old out.new) result }
 {
     let rows = match read_rows(alloc, inputs, name) {
@@ -100,7 +102,7 @@ fn obey<I: Inputs, O: Sink>(
     requires leads { Leads command.now.order robot }
     requires start { Fits robot start.now }
     ensures tells { IsTrue (O.tells out.new) → IsTrue (O.tells out.old) }
-    ensures obeys { Obeys (plan command.now.order robot start.now command.now.rows.now command.now.echo)
+    ensures obeys { Obeys (plan command.now.order robot start.now [] command.now.rows.now command.now.echo)
         (source I.tells I.holds I.given I.faults inputs.old inputs.new) (stream O.tells O.put O.faults out.old out.new) result }
 {
     let done = match command.order {
@@ -133,7 +135,7 @@ fn is_unfit(order: Order, robot: &Robot) -> bool
     }
 }
 
-/// The steps of a run, up to the first that stops it. Tells whether a row is refused.
+/// The steps of a run, up to the first that stops it. Tells whether a row is refused. No task uses the constraints.
 fn steps<I: Inputs, O: Sink>(
     alloc: Global,
     words: &[String],
@@ -160,6 +162,10 @@ fn steps<I: Inputs, O: Sink>(
     if is_unfit(command.order, &robot) {
         return Err(Stop::Usage(UsageFault::Mimic));
     }
+    let _constraints = match read_constraints_of(alloc, inputs, &robot, command.constraints) {
+        Ok(constraints) => constraints,
+        Err(stop) => return Err(of_constraints(stop)),
+    };
     obey(alloc, &command, robot, &start, inputs, out)
 }
 

@@ -11,7 +11,7 @@ pub enum Status {
     Refused,
     /// The words do not fit.
     Usage,
-    /// The robot is refused.
+    /// The robot is refused, or its constraints are.
     Robot,
     /// The rows are refused from some line on.
     Rows,

@@ -1,7 +1,8 @@
 //! What ends a run before its last row, by the part of the run that it comes from.
 ghost use Rattle.std.specs.Prelude.{◌≡◌};
-ghost use Rattle.rbd.specs.Stops.{refusal_of_tags, refusal_of_urdf, refusal_of_srdf, refusal_of_tree, stop_of_refusal, stop_of_read, stop_of_rows, stop_of_start, stop_of_header, stop_of_words};
+ghost use Rattle.rbd.specs.Stops.{refusal_of_tags, refusal_of_urdf, refusal_of_srdf, refusal_of_tree, stop_of_refusal, stop_of_read, stop_of_rows, stop_of_start, stop_of_con, stop_of_header, stop_of_words};
 
+use rb_constraint::{ConFault, ConKind};
 use rb_rows::{HeaderFault, HeaderKind};
 use rb_srdf::{SrdfFault, SrdfFaultKind};
 use rb_tags::{TagFault, TagKind};
@@ -36,6 +37,15 @@ pub enum RobotFault {
     Tree(TreeFault),
 }
 
+/// What is wrong with the file of constraints.
+#[derive(Clone, Copy, Debug, PartialEq, Eq)]
+pub enum ConstraintsFault {
+    /// It passes 8 MiB.
+    TooLong,
+    /// Its bytes are no constraints of the robot.
+    File(ConFault),
+}
+
 /// What is wrong with the rows.
 #[derive(Clone, Copy, Debug, PartialEq, Eq)]
 pub enum RowsFault {
@@ -52,6 +62,7 @@ pub enum RowsFault {
 pub enum Stop {
     Usage(UsageFault),
     Robot(RobotFault),
+    Constraints(ConstraintsFault),
     Rows(RowsFault),
     /// An input failed.
     Input,
@@ -176,6 +187,16 @@ impl From<AllocError> for RowsStop {
     }
 }
 
+/// Why constraints are not read.
+pub(crate) fn of_con(fault: ConFault) -> ReadStop<ConstraintsFault>
+    ensures { result ≡ stop_of_con fault }
+{
+    match fault.kind {
+        ConKind::Memory => ReadStop::Memory,
+        _ => ReadStop::Fault(ConstraintsFault::File(fault)),
+    }
+}
+
 /// Why the rows end at their header.
 pub(crate) fn of_header(fault: HeaderFault) -> RowsStop
     ensures { result ≡ stop_of_header fault }
@@ -214,6 +235,17 @@ pub(crate) fn of_start(stop: StartStop) -> Stop
     match stop {
         StartStop::NoState => Stop::Usage(UsageFault::State),
         StartStop::Memory => Stop::Memory,
+    }
+}
+
+/// A stop of reading the constraints, as one of the run.
+pub(crate) fn of_constraints(stop: ReadStop<ConstraintsFault>) -> Stop
+    ensures { result ≡ stop_of_read Stop.Constraints stop }
+{
+    match stop {
+        ReadStop::Fault(fault) => Stop::Constraints(fault),
+        ReadStop::Input => Stop::Input,
+        ReadStop::Memory => Stop::Memory,
     }
 }
 

@@ -57,11 +57,12 @@ fn words_of(alloc: Global, words: &[&str]) -> Result<Vec<String>, AllocError> {
     Ok(texts)
 }
 
-// Runs these words; the calls of these numbers fail.
-fn run_failing(
+// Runs these words, with a file of constraints; the calls of these numbers fail.
+fn run_under(
     alloc: Global,
     words: &[&str],
     held: Held<'_>,
+    constraints: &[u8],
     reads: &[u64],
     writes: &[u64],
 ) -> Result<Ran, AllocError> {
@@ -69,12 +70,23 @@ fn run_failing(
     let mut inputs = MemInputs::new(alloc, 4096, reads)?;
     inputs.add("robot.urdf", held.robot)?;
     inputs.add("robot.srdf", held.poses)?;
+    inputs.add("grips.csv", constraints)?;
     inputs.add("table.csv", held.rows)?;
     inputs.add("-", held.rows)?;
     let mut out = MemSink::new(alloc, 100_000, 100, writes)?;
     let mut err = MemSink::new(alloc, 10_000, 7, &[])?;
     let status = run(alloc, words.as_slice(), &mut inputs, &mut out, &mut err);
     Ok(Ran { status, out, err })
+}
+
+fn run_failing(
+    alloc: Global,
+    words: &[&str],
+    held: Held<'_>,
+    reads: &[u64],
+    writes: &[u64],
+) -> Result<Ran, AllocError> {
+    run_under(alloc, words, held, b"", reads, writes)
 }
 
 fn run_words(alloc: Global, words: &[&str], held: Held<'_>) -> Result<Ran, AllocError> {
@@ -486,6 +498,149 @@ fn words_and_poses_are_refused(rt: HostRuntime) -> Result<(), Fail> {
     Ok(())
 }
 
+// A file of constraints of the box, and the line on standard error.
+const CONSTRAINTS: [(&[u8], &[u8]); 12] = [
+    (b"", b"rbd: constraints: BadHeader at line 0\n"),
+    (
+        b"# none\n\nname,axes\n",
+        b"rbd: constraints: BadHeader at line 3\n",
+    ),
+    (
+        b"name,axes,link1,x1,y1,z1,link2,x2,y2,z2,mu,e\na,x,box\n",
+        b"rbd: constraints: BadLine at line 2\n",
+    ),
+    (
+        b"name,axes,link1,x1,y1,z1,link2,x2,y2,z2,mu,e\n,x,box,,,,,,,,,\n",
+        b"rbd: constraints: BadLine at line 2\n",
+    ),
+    (
+        b"name,axes,link1,x1,y1,z1,link2,x2,y2,z2,mu,e\na,x,box,,,,,,,,,\n# again\na,y,box,,,,,,,,,\n",
+        b"rbd: constraints: NameTwice at line 4\n",
+    ),
+    (
+        b"name,axes,link1,x1,y1,z1,link2,x2,y2,z2,mu,e\na,xx,box,,,,,,,,0,0\n",
+        b"rbd: constraints: BadRows at line 2\n",
+    ),
+    (
+        b"name,axes,link1,x1,y1,z1,link2,x2,y2,z2,mu,e\na,xy,box,,,,,,,,,\nb,z,lid,,,,,,,,,\n",
+        b"rbd: constraints: UnknownLink at line 3\n",
+    ),
+    // the world comes second
+    (
+        b"name,axes,link1,x1,y1,z1,link2,x2,y2,z2,mu,e\na,x,,,,,box,,,,,\n",
+        b"rbd: constraints: UnknownLink at line 2\n",
+    ),
+    (
+        b"name,axes,link1,x1,y1,z1,link2,x2,y2,z2,mu,e\na,x,box,one,,,,,,,,\n",
+        b"rbd: constraints: BadNumber at line 2\n",
+    ),
+    (
+        b"name,axes,link1,x1,y1,z1,link2,x2,y2,z2,mu,e\na,x,box,,,,,,,,-1..1,\n",
+        b"rbd: constraints: BadNumber at line 2\n",
+    ),
+    (
+        b"name,axes,link1,x1,y1,z1,link2,x2,y2,z2,mu,e\r\na,x,box,,,,,,,,,1.5\r\n",
+        b"rbd: constraints: BadNumber at line 2\n",
+    ),
+    // ten have sixty rows
+    (
+        b"name,axes,link1,x1,y1,z1,link2,x2,y2,z2,mu,e\na,xyzabc,box,,,,,,,,,\nb,xyzabc,box,,,,,,,,,\nc,xyzabc,box,,,,,,,,,\nd,xyzabc,box,,,,,,,,,\ne,xyzabc,box,,,,,,,,,\nf,xyzabc,box,,,,,,,,,\ng,xyzabc,box,,,,,,,,,\nh,xyzabc,box,,,,,,,,,\ni,xyzabc,box,,,,,,,,,\nj,xyzabc,box,,,,,,,,,\nk,xyzab,box,,,,,,,,,\n",
+        b"rbd: constraints: TooMany at line 12\n",
+    ),
+];
+
+#[test]
+fn constraints_are_refused(rt: HostRuntime) -> Result<(), Fail> {
+    let held = Held {
+        robot: BOX,
+        poses: b"",
+        rows: b"no column\n",
+    };
+    let words = [
+        "--task",
+        "fd",
+        "--urdf",
+        "robot.urdf",
+        "--root",
+        "floating",
+        "--echo",
+        "--constraints",
+        "grips.csv",
+    ];
+    for (constraints, line) in CONSTRAINTS.iter() {
+        let ran = run_under(rt.alloc(), &words, held, constraints, &[], &[])?;
+        assert_eq!(rt; ran.err.bytes(), *line);
+        assert_eq!(rt; ran.status, Status::Robot);
+        assert_eq!(rt; ran.out.bytes(), b"".as_slice());
+    }
+    Ok(())
+}
+
+// Each task takes a file of constraints, here between two links and with the world, and puts what it puts without one.
+#[test]
+fn tasks_pass_over_constraints(rt: HostRuntime) -> Result<(), Fail> {
+    let held = Held {
+        robot: STACK,
+        poses: b"",
+        rows: b"a.one,tau.two\n1,2\n",
+    };
+    let constraints =
+        b"# grips\n\nname,axes,link1,x1,y1,z1,link2,x2,y2,z2,mu,e\nboth,xc,l1,0.5,,,l2,,-1..1,,,0.5\n\"held, still\",yz,l2,,,,,,,,1e-3,\n";
+    for task in ["rnea", "crba", "fd", "aba", "model", "columns"] {
+        let without = run_words(rt.alloc(), &["--task", task, "--urdf", "robot.urdf"], held)?;
+        let words = [
+            "--task",
+            task,
+            "--urdf",
+            "robot.urdf",
+            "--constraints=grips.csv",
+        ];
+        let ran = run_under(rt.alloc(), &words, held, constraints, &[], &[])?;
+        assert_eq!(rt; ran.status, Status::Done);
+        assert_eq!(rt; ran.out.bytes(), without.out.bytes());
+        assert_eq!(rt; ran.err.bytes(), b"".as_slice());
+    }
+    Ok(())
+}
+
+// Words behind the task and the robot, in which a joint follows another and which has no states, and the line on standard error.
+const BEFORE_CONSTRAINTS: [(&[&str], Status, &[u8]); 4] = [
+    (
+        &["--task", "columns", "--state", "half"],
+        Status::Usage,
+        b"rbd: usage: state\n",
+    ),
+    (&["--task", "aba"], Status::Usage, b"rbd: usage: mimic\n"),
+    (
+        &["--task", "fd"],
+        Status::Robot,
+        b"rbd: constraints: BadHeader at line 1\n",
+    ),
+    (
+        &["--task", "model"],
+        Status::Robot,
+        b"rbd: constraints: BadHeader at line 1\n",
+    ),
+];
+
+#[test]
+fn constraints_are_read_behind_the_state(rt: HostRuntime) -> Result<(), Fail> {
+    let held = Held {
+        robot: PAIR,
+        poses: b"",
+        rows: b"no column\n",
+    };
+    for (first, status, line) in BEFORE_CONSTRAINTS.iter() {
+        let mut words = Vec::from_slice(rt.alloc(), first)?;
+        words.extend_from_slice(&["--urdf", "robot.urdf", "--constraints", "grips.csv"])?;
+        let ran = run_under(rt.alloc(), words.as_slice(), held, b"grips\n", &[], &[])?;
+        assert_eq!(rt; ran.err.bytes(), *line);
+        assert_eq!(rt; ran.status, *status);
+        assert_eq!(rt; ran.out.bytes(), b"".as_slice());
+    }
+    Ok(())
+}
+
 #[test]
 fn the_parser_of_words_says_more(rt: HostRuntime) -> Result<(), Fail> {
     let none: [&[&str]; 3] = [
@@ -648,6 +803,19 @@ fn a_read_fails(rt: HostRuntime) -> Result<(), Fail> {
     assert_eq!(rt; stopped.status, Status::OutputFault);
     assert_eq!(rt; stopped.out.bytes(), b"".as_slice());
     assert_eq!(rt; stopped.err.bytes(), b"rbd: output failed\n".as_slice());
+    // the constraints are opened by the fourth call, and the model takes no rows
+    let words = [
+        "--task",
+        "model",
+        "--urdf",
+        "robot.urdf",
+        "--constraints",
+        "grips.csv",
+    ];
+    let missed = run_failing(rt.alloc(), &words, held, &[4], &[])?;
+    assert_eq!(rt; missed.status, Status::InputFault);
+    assert_eq!(rt; missed.out.bytes(), b"".as_slice());
+    assert_eq!(rt; missed.err.bytes(), b"rbd: input failed\n".as_slice());
     Ok(())
 }
 
@@ -700,5 +868,37 @@ fn files_are_limited(rt: HostRuntime) -> Result<(), Fail> {
     let longer = run_over(alloc, robot.as_slice(), b"a.lift\n1.5\n")?;
     assert_eq!(rt; longer.status, Status::Robot);
     assert_eq!(rt; longer.err.bytes(), b"rbd: urdf: TooLong\n".as_slice());
+    Ok(())
+}
+
+#[test]
+fn constraints_are_limited(rt: HostRuntime) -> Result<(), Fail> {
+    let alloc = rt.alloc();
+    let held = Held {
+        robot: LIFT,
+        poses: b"",
+        rows: b"",
+    };
+    let words = [
+        "--task",
+        "columns",
+        "--urdf",
+        "robot.urdf",
+        "--constraints",
+        "grips.csv",
+    ];
+    let mut text = Vec::from_slice(alloc, b"name,axes,link1,x1,y1,z1,link2,x2,y2,z2,mu,e\n#")?;
+    let rest = 8_388_608 - text.len();
+    text.extend_from_slice(vec![in alloc; b' '; rest]?.as_slice())?;
+    let longest = run_under(alloc, &words, held, text.as_slice(), &[], &[])?;
+    assert_eq!(rt; longest.status, Status::Done);
+    text.push(b' ')?;
+    let longer = run_under(alloc, &words, held, text.as_slice(), &[], &[])?;
+    assert_eq!(rt; longer.status, Status::Robot);
+    assert_eq!(rt;
+        longer.err.bytes(),
+        b"rbd: constraints: TooLong\n".as_slice()
+    );
+    assert_eq!(rt; longer.out.bytes(), b"".as_slice());
     Ok(())
 }
