@@ -224,18 +224,6 @@ constraints_unread tree bytes reading.TooLong stop is long = rw is (long refl)
 constraints_unread tree bytes reading.Failed stop is long = rw is tt
 constraints_unread tree bytes reading.Memory stop is long = rw is tt
 
--- where it holds too much
-pub long_constraints : (fault : FileFault) (stop : ReadStop ConstraintsFault) → stop ≡ file_stop fault wrong.TooLong → stop ≡ read.Fault wrong.TooLong → fault ≡ reading.TooLong
-long_constraints reading.TooLong stop is same = refl
-long_constraints reading.Failed stop is same = absurd cc
-long_constraints reading.Memory stop is same = absurd cc
-
--- where the input failed
-pub lost_constraints : (fault : FileFault) (stop : ReadStop ConstraintsFault) → stop ≡ file_stop fault wrong.TooLong → stop ≡ read.Input → fault ≡ reading.Failed
-lost_constraints reading.TooLong stop is same = absurd cc
-lost_constraints reading.Failed stop is same = refl
-lost_constraints reading.Memory stop is same = absurd cc
-
 of_con_kind : (kind : ConKind) (P : ConstraintsFault → Type 0) (fault : ConstraintsFault) → P fault → IfFault P (stops.con_kind kind fault)
 of_con_kind con_kind.Memory P fault is = tt
 of_con_kind kind P fault is = is
@@ -245,14 +233,3 @@ pub constraints_refused : (tree : Tree) (bytes : List ℕ) (fault : ConFault) �
     → IfFault (HasNoConstraints tree (Some bytes)) (stop_of_con fault)
 constraints_refused tree bytes fault short (inl is) = rw is tt
 constraints_refused tree bytes fault short (inr has) = of_con_kind fault.kind (HasNoConstraints tree (Some bytes)) (wrong.File fault) (record { short = short; refused = has })
-
-of_con_other : (kind : ConKind) (fault : ConFault) (other : ReadStop ConstraintsFault) → (read.Memory ≡ other → ⊥) → (read.Fault (wrong.File fault) ≡ other → ⊥) → stops.con_kind kind (wrong.File fault) ≡ other → ⊥
-of_con_other con_kind.Memory fault other memory file is = memory is
-of_con_other kind fault other memory file is = file is
-
--- they are not too long, and no input fails over them
-pub con_not_long : (fault : ConFault) → stop_of_con fault ≡ read.Fault wrong.TooLong → ⊥
-con_not_long fault is = of_con_other fault.kind fault (read.Fault wrong.TooLong) (λ e. absurd cc) (λ e. let f : wrong.File fault ≡ wrong.TooLong = cc in absurd cc) is
-
-pub con_not_lost : (fault : ConFault) → stop_of_con fault ≡ read.Input → ⊥
-con_not_lost fault is = of_con_other fault.kind fault read.Input (λ e. let f : read.Memory ≡ read.Input = cc in absurd cc) (λ e. absurd cc) is
