@@ -32,11 +32,8 @@ use Rattle.rb_tree.specs.Build.{Source}
 use Rattle.rb_tree.specs.Refusals.{HasFault}
 use Rattle.rb_tree.specs.Faults as Tree
 use Rattle.rb_tree.specs.Robot.{Tree}
-use Rattle.rb_constraint.specs.declared.faults.ConFault.{ConFault}
-use Rattle.rb_constraint.specs.declared.faults.ConKind.{ConKind}
-use Rattle.rb_constraint.specs.declared.faults.ConKind.TheVariants as con_kind
-use Rattle.rb_constraint.specs.Faults as Con
-use Rattle.rb_constraint.specs.Refusals as Constraints
+use Rattle.rb_constraint.specs.declared.constraints.Constraint.{Constraint}
+use Rattle.rb_constraint.specs.File.{IsFile}
 use Rattle.rbd.specs.declared.stop.ConstraintsFault.{ConstraintsFault}
 use Rattle.rbd.specs.declared.stop.ConstraintsFault.TheVariants as wrong
 use Rattle.rbd.specs.declared.stop.RobotFault.{RobotFault}
@@ -45,9 +42,9 @@ use Rattle.rbd.specs.declared.stop.Refusal.{Refusal}
 use Rattle.rbd.specs.declared.stop.Refusal.TheVariants as refusal
 use Rattle.rbd.specs.declared.stop.ReadStop.{ReadStop}
 use Rattle.rbd.specs.declared.stop.ReadStop.TheVariants as read
-use Rattle.rbd.specs.Plan.{most_file, Files, files, tags_in, urdf_in, IsSemanticsIn, HasNoSemantics, IsRefusedBy, IsSource, IsUnfit, IsRefused, HasNoConstraints}
+use Rattle.rbd.specs.Plan.{most_file, Files, files, tags_in, urdf_in, IsSemanticsIn, HasNoSemantics, IsRefusedBy, IsSource, IsUnfit, IsRefused, IsConstraintsFile, HasNoConstraints}
 use Rattle.rbd.specs.Stops as stops
-use Rattle.rbd.specs.Stops.{IfRefused, IfFault, file_stop, refusal_of_tags, refusal_of_urdf, refusal_of_srdf, refusal_of_tree, stop_of_refusal, stop_of_con}
+use Rattle.rbd.specs.Stops.{IfRefused, IfFault, file_stop, refusal_of_tags, refusal_of_urdf, refusal_of_srdf, refusal_of_tree, stop_of_refusal}
 
 -- ---- the tags of a file
 tags_short : (file : WhichFile) (bytes : List ℕ) → length bytes ≤ most_file → tags_in file bytes ≡ told_as (why.Tags file) (tags_of bytes)
@@ -224,12 +221,6 @@ constraints_unread tree bytes reading.TooLong stop is long = rw is (long refl)
 constraints_unread tree bytes reading.Failed stop is long = rw is tt
 constraints_unread tree bytes reading.Memory stop is long = rw is tt
 
-of_con_kind : (kind : ConKind) (P : ConstraintsFault → Type 0) (fault : ConstraintsFault) → P fault → IfFault P (stops.con_kind kind fault)
-of_con_kind con_kind.Memory P fault is = tt
-of_con_kind kind P fault is = is
-
--- its bytes are refused, or no memory was found for them
-pub constraints_refused : (tree : Tree) (bytes : List ℕ) (fault : ConFault) → length bytes ≤ most_file → (fault ≡ Con.no_memory) ⊎ Constraints.HasFault tree bytes fault
-    → IfFault (HasNoConstraints tree (Some bytes)) (stop_of_con fault)
-constraints_refused tree bytes fault short (inl is) = rw is tt
-constraints_refused tree bytes fault short (inr has) = of_con_kind fault.kind (HasNoConstraints tree (Some bytes)) (wrong.File fault) (record { short = short; refused = has })
+-- one that is read
+pub constraints_read : (tree : Tree) (bytes held : List ℕ) (list : List Constraint) → bytes ≡ held → length bytes ≤ most_file → IsFile tree bytes list → IsConstraintsFile tree held list
+constraints_read tree bytes held list same short is = subst (λ (b : List ℕ). IsConstraintsFile tree b list) same (record { short = short; is = is })
