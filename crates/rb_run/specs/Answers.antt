@@ -1,5 +1,5 @@
 -- What is answered to a row.
-use Rattle.std.specs.Prelude.{◌≡◌, ◌↔◌, ℕ, ◌+◌, ◌-◌, List, [], ◌∷◌, map, slice_index_or, Bool, not, replicate, Result, Ok, Err}
+use Rattle.std.specs.Prelude.{◌≡◌, ◌↔◌, ℕ, ◌+◌, ◌-◌, List, [], ◌∷◌, ◌++◌, map, slice_index_or, Bool, not, replicate, Result, Ok, Err}
 use Rattle.rb_num.specs.Interval.{Interval, zero_interval}
 use Rattle.rb_result.specs.Steps.{◌>>=◌}
 use Rattle.rb_tree.specs.Columns.{column_count}
@@ -7,9 +7,12 @@ use Rattle.rb_tree.specs.Robot.{Tree}
 use Rattle.rb_tree.specs.State.{Row}
 use Rattle.rb_work.specs.declared.names.RowFault.{RowFault}
 use Rattle.rb_work.specs.View.{View, mass_at}
+use Rattle.rb_constraint.specs.declared.constraints.Constraint.{Constraint}
+use Rattle.rb_constraint.specs.Constraints.{constraints_of}
 use Rattle.rb_rnea.specs.Dynamics as Inverse
 use Rattle.rb_mass.specs.Mass as Mass
 use Rattle.rb_contact.specs.Forward as Forward
+use Rattle.rb_contact.specs.Contact as Contact
 use Rattle.rb_aba.specs.Forward as Articulated
 use Rattle.rb_rows.specs.declared.faults.FieldFault.{FieldFault}
 use Rattle.rb_rows.specs.declared.task.Task.{Task}
@@ -33,13 +36,15 @@ entry_of table pair = slice_index_or (slice_index_or table (pair.0 - 1) []) (pai
 abbrev pub upper_of : ℕ → List (List Interval) → List Interval
 upper_of count table = map (entry_of table) (pairs_of count)
 
--- the one answer to a row: the torques, the upper entries of the mass table, the accelerations, or the first refusal on the way to them
-abbrev pub answer_for : Task → Tree → Row → Result (List Interval) RowFault
-answer_for task.Rnea tree row = Inverse.answer_of tree row
-answer_for task.Crba tree row = Mass.answer_of tree row >>= λ table. Ok (upper_of (column_count tree.bodies) table)
-answer_for task.Fd tree row = Forward.forward_of tree row
-answer_for task.Aba tree row = Articulated.answer_of tree row
-answer_for unbuilt tree row = Ok []
+-- the one answer to a row: the torques, the upper entries of the mass table, the accelerations, those under constraints with the forces of the rows
+-- behind them, or the first refusal on the way to them
+abbrev pub answer_for : Task → Tree → List Constraint → Row → Result (List Interval) RowFault
+answer_for task.Rnea tree cons row = Inverse.answer_of tree row
+answer_for task.Crba tree cons row = Mass.answer_of tree row >>= λ table. Ok (upper_of (column_count tree.bodies) table)
+answer_for task.Fd tree cons row = Forward.forward_of tree row
+answer_for task.Aba tree cons row = Articulated.answer_of tree row
+answer_for task.Contact tree cons row = Contact.contact_of tree row (constraints_of cons) >>= λ found. Ok (found.0 ++ found.1)
+answer_for unbuilt tree cons row = Ok []
 
 -- what a work holds for a pair of columns, and for all of them
 abbrev pub mass_of_pair : View → ℕ × ℕ → Interval
@@ -49,17 +54,18 @@ abbrev pub masses_in : Tree → View → List Interval
 masses_in tree w = map (mass_of_pair w) (pairs_of (column_count tree.bodies))
 
 -- what a work holds for these values
-abbrev pub values_in : Task → Tree → View → List Interval
-values_in task.Rnea tree w = Inverse.torques_in tree w
-values_in task.Crba tree w = masses_in tree w
-values_in task.Fd tree w = Forward.accelerations_in tree w
-values_in task.Aba tree w = Articulated.accelerations_in tree w
-values_in unbuilt tree w = []
+abbrev pub values_in : Task → Tree → List Constraint → View → List Interval
+values_in task.Rnea tree cons w = Inverse.torques_in tree w
+values_in task.Crba tree cons w = masses_in tree w
+values_in task.Fd tree cons w = Forward.accelerations_in tree w
+values_in task.Aba tree cons w = Articulated.accelerations_in tree w
+values_in task.Contact tree cons w = Forward.accelerations_in tree w ++ Contact.forces_in (constraints_of cons) w
+values_in unbuilt tree cons w = []
 
 -- what the one answer means: values that enclose, or a refusal
-pub record AnswerMeans (asked : Task) (tree : Tree) (row : Row) : Type 0 where
-  pub values : (values : List Interval) → answer_for asked tree row ≡ Ok values → Encloses asked tree row values
-  pub refused : (fault : RowFault) → (answer_for asked tree row ≡ Err fault) ↔ IsRefusedFor asked tree row fault
+pub record AnswerMeans (asked : Task) (tree : Tree) (cons : List Constraint) (row : Row) : Type 0 where
+  pub values : (values : List Interval) → answer_for asked tree cons row ≡ Ok values → Encloses asked tree cons row values
+  pub refused : (fault : RowFault) → (answer_for asked tree cons row ≡ Err fault) ↔ IsRefusedFor asked tree cons row fault
 
 -- ---- answers
 -- a slot that holds no row has no answer, and one of a row whose fields are wrong tells which; the values of a state are those that are defined, or
@@ -71,7 +77,7 @@ HasAnswer (Err fault) old new = new ≡ record old { answer = Answer.Refused fau
 abbrev pub IsAnsweredBy : Job → SlotInput → Slot → Slot → Type 0
 IsAnsweredBy job Input.Idle old new = new ≡ record old { answer = Answer.Idle }
 IsAnsweredBy job (Input.Bad fault) old new = new ≡ record old { answer = Answer.Bad fault }
-IsAnsweredBy job Input.Row old new = HasAnswer (answer_for job.task job.robot old.state) old new
+IsAnsweredBy job Input.Row old new = HasAnswer (answer_for job.task job.robot job.cons old.state) old new
 
 -- ---- what a row told
 -- a state, or what is wrong with the row's fields
@@ -97,7 +103,7 @@ refused_slot job number row fault = record {
   row = number;
   input = Input.Row;
   state = row;
-  values = replicate (value_count job.robot job.task) zero_interval;
+  values = replicate (value_count job.robot job.cons job.task) zero_interval;
   answer = Answer.Refused fault;
 }
 
@@ -111,7 +117,7 @@ slot_by job number row (Err fault) = refused_slot job number row fault
 
 -- the row of this number, which told this, with its answer
 abbrev pub slot_of : Job → ℕ → Told → Slot
-slot_of job number (Ok row) = slot_by job number row (answer_for job.task job.robot row)
+slot_of job number (Ok row) = slot_by job number row (answer_for job.task job.robot job.cons row)
 slot_of job number (Err fault) = bad_slot job number fault
 
 -- rows that are numbered from this number on

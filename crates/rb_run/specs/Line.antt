@@ -77,4 +77,4 @@ abbrev pub echo_count : Job → ℕ
 echo_count job = if job.echo then entry_count job.robot.bodies + 3 * column_count job.robot.bodies else 0
 
 abbrev pub line_room : Job → ℕ
-line_room job = 81 * (echo_count job + value_count job.robot job.task) + 200
+line_room job = 81 * (echo_count job + value_count job.robot job.cons job.task) + 200

@@ -1,9 +1,8 @@
 ghost use Rattle.std.specs.Prelude.{◌≡◌, length, OnOk, IfErr};
 ghost use Rattle.rb_sweep.specs.Sweep.{Answers};
-ghost use Rattle.rb_tree.specs.Places.{IsFor};
 ghost use Rattle.rb_tree.specs.State.{Fits};
 ghost use Rattle.rb_run.specs.Answers.{IsAnsweredBy, answer_for, values_in};
-ghost use Rattle.rb_run.specs.Jobs.{IsJob};
+ghost use Rattle.rb_run.specs.Jobs.{IsJob, IsWorkOf};
 ghost use Rattle.rb_run.specs.Meaning.{Encloses, IsRefusedFor};
 ghost use Rattle.rb_run.specs.Slots.{value_count, IsSlotOf};
 
@@ -11,7 +10,7 @@ use crate::job::Job;
 use crate::slot::{Answer, Slot, SlotInput};
 use crate::values::Values;
 use rb_aba::aba;
-use rb_contact::forward;
+use rb_contact::{contact, forward};
 use rb_mass::crba;
 use rb_rnea::rnea;
 use rb_rows::Task;
@@ -22,11 +21,11 @@ use rb_work::{RowFault, Work};
 fn find(job: &Job, state: &State, work: &mut Work) -> Result<(), RowFault>
     requires task { IsJob job.now }
     requires state { Fits job.now.robot state.now }
-    requires work { IsFor job.now.robot work.old }
-    ensures exact { Answers result (answer_for job.now.task job.now.robot state.now) (values_in job.now.task job.now.robot work.new) }
-    ensures headline { OnOk result (Encloses job.now.task job.now.robot state.now (values_in job.now.task job.now.robot work.new)) }
-    ensures refused { IfErr result (IsRefusedFor job.now.task job.now.robot state.now) }
-    ensures work { IsFor job.now.robot work.new }
+    requires work { IsWorkOf job.now work.old }
+    ensures exact { Answers result (answer_for job.now.task job.now.robot job.now.cons state.now) (values_in job.now.task job.now.robot job.now.cons work.new) }
+    ensures headline { OnOk result (Encloses job.now.task job.now.robot job.now.cons state.now (values_in job.now.task job.now.robot job.now.cons work.new)) }
+    ensures refused { IfErr result (IsRefusedFor job.now.task job.now.robot job.now.cons state.now) }
+    ensures work { IsWorkOf job.now work.new }
 {
     let _tree = job.robot.bodies();
     match job.task {
@@ -34,7 +33,8 @@ fn find(job: &Job, state: &State, work: &mut Work) -> Result<(), RowFault>
         Task::Crba => crba(&job.robot, state, work),
         Task::Fd => forward(&job.robot, state, work),
         Task::Aba => aba(&job.robot, state, work),
-        Task::Contact | Task::Impulse => Ok(()),
+        Task::Contact => contact(&job.robot, &job.cons, state, work),
+        Task::Impulse => Ok(()),
     }
 }
 
@@ -49,23 +49,23 @@ pub fn answer_row(
 ) -> Result<(), RowFault>
     requires task { IsJob job.now }
     requires state { Fits job.now.robot state.now }
-    requires work { IsFor job.now.robot work.old }
-    requires length { length values.old ≡ value_count job.now.robot job.now.task }
+    requires work { IsWorkOf job.now work.old }
+    requires length { length values.old ≡ value_count job.now.robot job.now.cons job.now.task }
 
     // the values, or the refusal, that are defined
-    ensures exact { Answers result (answer_for job.now.task job.now.robot state.now) values.new }
+    ensures exact { Answers result (answer_for job.now.task job.now.robot job.now.cons state.now) values.new }
 
-    // for each choice within the brackets of the robot and the row the equations of the task have exactly one solution, and it lies in the values
-    ensures headline { OnOk result (Encloses job.now.task job.now.robot state.now values.new) }
+    // for each choice within the brackets of the robot, the constraints and the row the equations of the task have exactly one solution, and it lies in the values
+    ensures headline { OnOk result (Encloses job.now.task job.now.robot job.now.cons state.now values.new) }
 
     // there are values in which each name before one is what its rule gives, and the rule of that one refuses so
-    ensures refused { IfErr result (IsRefusedFor job.now.task job.now.robot state.now) }
+    ensures refused { IfErr result (IsRefusedFor job.now.task job.now.robot job.now.cons state.now) }
 
     // and then the values are as they were
     ensures kept { IfErr result (λ _. values.new ≡ values.old) }
 
     ensures length { length values.new ≡ length values.old }
-    ensures work { IsFor job.now.robot work.new }
+    ensures work { IsWorkOf job.now work.new }
 {
     find(job, state, work)?;
     values.take(job, work);
@@ -78,10 +78,10 @@ pub fn answer_row(
 pub fn answer_slot(job: &Job, slot: &mut Slot, work: &mut Work)
     requires task { IsJob job.now }
     requires slot { IsSlotOf job.now slot.old }
-    requires work { IsFor job.now.robot work.old }
+    requires work { IsWorkOf job.now work.old }
     ensures exact { IsAnsweredBy job.now slot.old.input slot.old slot.new }
     ensures slot { IsSlotOf job.now slot.new }
-    ensures work { IsFor job.now.robot work.new }
+    ensures work { IsWorkOf job.now work.new }
 {
     slot.answer = match slot.input {
         SlotInput::Idle => Answer::Idle,

@@ -4,13 +4,16 @@ ghost use Rattle.rb_tree.specs.Columns.{column_count};
 ghost use Rattle.rb_tree.specs.Places.{IsFor};
 ghost use Rattle.rb_work.specs.View.{columns_of};
 ghost use Rattle.rb_rnea.specs.Dynamics.{torques_in};
+ghost use Rattle.rb_constraint.specs.Constraints.{constraints_of};
 ghost use Rattle.rb_contact.specs.Forward.{accelerations_in};
+ghost use Rattle.rb_contact.specs.Contact.{forces_in};
 ghost use Rattle.rb_rows.specs.Head.{pairs_at};
 ghost use Rattle.rb_run.specs.Answers.{mass_of_pair, masses_in, values_in};
-ghost use Rattle.rb_run.specs.Jobs.{IsJob};
+ghost use Rattle.rb_run.specs.Jobs.{IsJob, IsWorkOf};
 ghost use Rattle.rb_run.specs.Slots.{value_count};
 
 use crate::job::Job;
+use rb_constraint::Constraints;
 use rb_num::Iv;
 use rb_rows::Task;
 use rb_tree::Robot;
@@ -29,13 +32,14 @@ fn pair_count(columns: usize) -> usize
 
 /// How many values the answer of a row has.
 pub(crate) fn value_count(job: &Job) -> usize
-    ensures count { result ≡ value_count job.now.robot job.now.task }
+    ensures count { result ≡ value_count job.now.robot job.now.cons job.now.task }
     ensures few { result ≤ 2080 }
 {
     let columns = job.robot.nv() as usize;
     match job.task {
         Task::Crba => pair_count(columns),
-        Task::Rnea | Task::Fd | Task::Aba | Task::Contact | Task::Impulse => columns,
+        Task::Rnea | Task::Fd | Task::Aba => columns,
+        Task::Contact | Task::Impulse => columns + job.cons.rows() as usize,
     }
 }
 
@@ -91,23 +95,50 @@ fn put_masses(robot: &Robot, work: &Work, masses: &mut [Iv])
     }
 }
 
+/// Puts the forces of the rows behind so many others.
+fn put_forces(cons: &Constraints, work: &Work, behind: usize, forces: &mut [Iv])
+    requires work { (constraints_of cons.now).rows ≤ work.now.rows }
+    requires length { length forces.old ≡ behind + (constraints_of cons.now).rows }
+    ensures forces { forces.new ≡ take behind forces.old ++ forces_in (constraints_of cons.now) work.now }
+    ensures length { length forces.new ≡ length forces.old }
+{
+    for r in 1..cons.rows() + 1 {
+        forces[behind + r as usize - 1] = work.row_force(r);
+    }
+}
+
+/// Puts the accelerations of a work, and the forces of the rows behind them.
+fn put_contact(robot: &Robot, cons: &Constraints, work: &Work, values: &mut [Iv])
+    requires work { IsFor robot.now work.now }
+    requires rows { (constraints_of cons.now).rows ≤ work.now.rows }
+    requires length { length values.old ≡ column_count robot.now.bodies + (constraints_of cons.now).rows }
+    ensures values { values.new ≡ accelerations_in robot.now work.now ++ forces_in (constraints_of cons.now) work.now }
+    ensures length { length values.new ≡ length values.old }
+{
+    let columns = robot.nv() as usize;
+    put_accelerations(robot, work, &mut values[..columns]);
+    put_forces(cons, work, columns, values);
+}
+
 /// Puts what a work holds for the values of a row.
 fn put_values(job: &Job, work: &Work, values: &mut [Iv])
     requires task { IsJob job.now }
-    requires work { IsFor job.now.robot work.now }
-    requires length { length values.old ≡ value_count job.now.robot job.now.task }
-    ensures values { values.new ≡ values_in job.now.task job.now.robot work.now }
+    requires work { IsWorkOf job.now work.now }
+    requires length { length values.old ≡ value_count job.now.robot job.now.cons job.now.task }
+    ensures values { values.new ≡ values_in job.now.task job.now.robot job.now.cons work.now }
     ensures length { length values.new ≡ length values.old }
 {
     match job.task {
         Task::Rnea => put_torques(&job.robot, work, values),
         Task::Crba => put_masses(&job.robot, work, values),
         Task::Fd | Task::Aba => put_accelerations(&job.robot, work, values),
-        Task::Contact | Task::Impulse => {}
+        Task::Contact => put_contact(&job.robot, &job.cons, work, values),
+        Task::Impulse => {}
     }
 }
 
-/// The values of the answer of a row: the torques or the accelerations from column 1 on, or the entries of the mass table at each two columns, by rows.
+/// The values of the answer of a row: the torques or the accelerations from column 1 on, under constraints the forces of their rows behind them, or the
+/// entries of the mass table at each two columns, by rows.
 #[derive(Debug, Drop)]
 pub struct Values {
     items: Vec<Iv>,
@@ -143,9 +174,9 @@ impl Values {
     /// Takes what a work holds for them.
     pub(crate) fn take(&mut self, job: &Job, work: &Work)
         requires task { IsJob job.now }
-        requires work { IsFor job.now.robot work.now }
-        requires length { length self.old ≡ value_count job.now.robot job.now.task }
-        ensures values { self.new ≡ values_in job.now.task job.now.robot work.now }
+        requires work { IsWorkOf job.now work.now }
+        requires length { length self.old ≡ value_count job.now.robot job.now.cons job.now.task }
+        ensures values { self.new ≡ values_in job.now.task job.now.robot job.now.cons work.now }
         ensures length { length self.new ≡ length self.old }
     {
         put_values(job, work, self.items.as_mut_slice());
