@@ -10,6 +10,7 @@ use Rattle.csv.specs.declared.parser.State.{State}
 use Rattle.csv.specs.declared.parser.State.TheVariants as st
 use Rattle.csv.proofs.RoundTrip.{read-write}
 use Rattle.rb_tree.specs.Robot.{Tree}
+use Rattle.rb_constraint.specs.declared.constraints.Constraint.{Constraint}
 use Rattle.rb_rows.specs.declared.task.Task.{Task}
 use Rattle.rb_rows.specs.Columns.{behind, entries_of, columns_of, state_columns}
 use Rattle.rb_rows.specs.Head.{line_of, head_fields}
@@ -147,9 +148,9 @@ columns_plain tree some =
 pub column_line_reads_back : ColumnLineReadsBack
 column_line_reads_back tree some = reads_back (state_columns tree) (columns_plain tree some)
 
-head_plain : (tree : Tree) (task : Task) (echo : Bool) → BeginsPlain (head_fields tree task echo)
+head_plain : (tree : Tree) (cons : List Constraint) (task : Task) (echo : Bool) → BeginsPlain (head_fields tree cons task echo)
 unfolding head_fields
-head_plain tree task echo = omega arith
+head_plain tree cons task echo = omega arith
 
 pub head_line_reads_back : HeadLineReadsBack
-head_line_reads_back tree task echo = reads_back (head_fields tree task echo) (head_plain tree task echo)
+head_line_reads_back tree cons task echo = reads_back (head_fields tree cons task echo) (head_plain tree cons task echo)

@@ -4,6 +4,9 @@ use Rattle.std.specs.List.{range_with_len}
 use Rattle.csv.specs.Writing.{default_writer, row_text}
 use Rattle.rb_tree.specs.Columns.{column_count}
 use Rattle.rb_tree.specs.Robot.{Tree}
+use Rattle.rb_constraint.specs.declared.axes.Direction.{Direction}
+use Rattle.rb_constraint.specs.declared.constraints.Constraint.{Constraint}
+use Rattle.rb_constraint.specs.Axes.{letter_of, directions}
 use Rattle.rb_rows.specs.declared.task.Task.{Task}
 use Rattle.rb_rows.specs.declared.task.Task.TheVariants as For
 use Rattle.rb_rows.specs.Columns.{behind, columns_behind, state_columns}
@@ -22,6 +25,7 @@ IsBuilt For.Rnea = Unit {0}
 IsBuilt For.Crba = Unit {0}
 IsBuilt For.Fd = Unit {0}
 IsBuilt For.Aba = Unit {0}
+IsBuilt For.Contact = Unit {0}
 IsBuilt task = ⊥
 
 -- ---- lines
@@ -47,19 +51,30 @@ mass_name pair = codes "M." ++ decimal pair.0 ++ codes "." ++ decimal pair.1
 abbrev pub mass_names : ℕ → List (List ℕ)
 mass_names count = map mass_name (pairs_of count)
 
--- the values of a task, of which each but an entry of the inertia matrix is named as a column of speeds is, behind its prefix
-abbrev pub value_names : Tree → Task → List (List ℕ)
-value_names tree For.Rnea = columns_behind (codes "tau.") tree
-value_names tree For.Crba = mass_names (column_count tree.bodies)
-value_names tree For.Fd = columns_behind (codes "a.") tree
-value_names tree For.Aba = columns_behind (codes "a.") tree
-value_names tree For.Contact = columns_behind (codes "a.") tree
-value_names tree For.Impulse = columns_behind (codes "v.") tree
+-- a row of a constraint: the name of the constraint and the letter of what the row holds
+abbrev pub row_name : Constraint → Direction → List ℕ
+row_name c direction = c.name ++ codes "." ++ letter_of direction ∷ []
+
+abbrev pub own_names : Constraint → List (List ℕ)
+own_names c = map (row_name c) (directions c.axes)
+
+-- the rows of all constraints, in their order
+abbrev pub row_names : List Constraint → List (List ℕ)
+row_names cons = flat_map own_names cons
+
+-- the values of a task, of which each but an entry of the inertia matrix is named as a column of speeds or as a row of constraints is, behind its prefix
+abbrev pub value_names : Tree → List Constraint → Task → List (List ℕ)
+value_names tree cons For.Rnea = columns_behind (codes "tau.") tree
+value_names tree cons For.Crba = mass_names (column_count tree.bodies)
+value_names tree cons For.Fd = columns_behind (codes "a.") tree
+value_names tree cons For.Aba = columns_behind (codes "a.") tree
+value_names tree cons For.Contact = columns_behind (codes "a.") tree ++ behind (codes "lam.") (row_names cons)
+value_names tree cons For.Impulse = columns_behind (codes "v.") tree ++ behind (codes "imp.") (row_names cons)
 
 -- the columns of the state, where they are given again
 abbrev pub echoed_names : Tree → Bool → List (List ℕ)
 echoed_names tree echo = if echo then behind (codes "in.") (state_columns tree) else []
 
 -- of the output: the number of the row, its answer, the cause of a refusal, the state where it is given again, the values
-unfoldable pub head_fields : Tree → Task → Bool → List (List ℕ)
-head_fields tree task echo = codes "row" ∷ codes "answer" ∷ codes "cause" ∷ (echoed_names tree echo ++ value_names tree task)
+unfoldable pub head_fields : Tree → List Constraint → Task → Bool → List (List ℕ)
+head_fields tree cons task echo = codes "row" ∷ codes "answer" ∷ codes "cause" ∷ (echoed_names tree echo ++ value_names tree cons task)

@@ -5,6 +5,7 @@ use Rattle.rb_num.specs.Interval.{Interval}
 use Rattle.rb_text.specs.Bracket.{bracket_of}
 use Rattle.rb_tree.specs.Robot.{Tree, AreBodies}
 use Rattle.rb_tree.specs.State.{Row}
+use Rattle.rb_constraint.specs.declared.constraints.Constraint.{Constraint}
 use Rattle.rb_rows.specs.declared.faults.HeaderFault.{HeaderFault}
 use Rattle.rb_rows.specs.declared.faults.HeaderKind.{HeaderKind}
 use Rattle.rb_rows.specs.declared.faults.HeaderKind.TheVariants.{BadHeader, UnknownColumn, ColumnTwice, Memory}
@@ -107,4 +108,5 @@ abbrev pub ColumnLineReadsBack : Type 0
 ColumnLineReadsBack = (tree : Tree) → state_columns tree ≢ [] → ReadsBack (line_of (state_columns tree)) (state_columns tree)
 
 abbrev pub HeadLineReadsBack : Type 0
-HeadLineReadsBack = (tree : Tree) (task : Task) (echo : Bool) → ReadsBack (line_of (head_fields tree task echo)) (head_fields tree task echo)
+HeadLineReadsBack =
+    (tree : Tree) (cons : List Constraint) (task : Task) (echo : Bool) → ReadsBack (line_of (head_fields tree cons task echo)) (head_fields tree cons task echo)

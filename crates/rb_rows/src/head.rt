@@ -3,14 +3,16 @@ ghost use Rattle.std.specs.Prelude.{◌≡◌, ◌≤◌, ◌++◌, ◌∷◌, [
 ghost use Rattle.std.specs.Str.{IsUtf8};
 ghost use Rattle.csv.specs.Writing.{default_writer, row_text};
 ghost use Rattle.rb_tree.specs.Columns.{column_count};
+ghost use Rattle.rb_constraint.specs.Axes.{where_held, directions};
 ghost use Rattle.rb_tree.specs.declared.sizes.TheConstants.{MAX_COLUMNS};
-ghost use Rattle.rb_rows.specs.Columns.{behind, state_columns};
-ghost use Rattle.rb_rows.specs.Head.{line_of, pairs_at, mass_name, mass_names, value_names, echoed_names, head_fields};
+ghost use Rattle.rb_rows.specs.Columns.{behind, columns_behind, state_columns};
+ghost use Rattle.rb_rows.specs.Head.{line_of, pairs_at, mass_name, mass_names, row_name, own_names, row_names, value_names, echoed_names, head_fields};
 
 use crate::columns::{column_texts, put_columns};
 use crate::task::Task;
 use csv::WriterBuilder;
 use itoa::Buffer;
+use rb_constraint::{Constraint, Constraints, Direction};
 use rb_tags::Text;
 use rb_tree::Robot;
 use std::alloc::{AllocError, Global};
@@ -119,23 +121,6 @@ fn put_mass_names(alloc: Global, texts: &mut Vec<String>, count: u32) -> Result<
     Ok(())
 }
 
-/// Puts the names of a task's values.
-fn put_value_names(
-    alloc: Global,
-    texts: &mut Vec<String>,
-    robot: &Robot,
-    task: Task,
-) -> Result<(), AllocError>
-    ensures { OnOk result (map string_bytes texts.new.items ≡ map string_bytes texts.old.items ++ value_names robot.now task) }
-{
-    match task {
-        Task::Rnea => put_columns(alloc, texts, "tau.", robot),
-        Task::Crba => put_mass_names(alloc, texts, robot.nv()),
-        Task::Fd | Task::Aba | Task::Contact => put_columns(alloc, texts, "a.", robot),
-        Task::Impulse => put_columns(alloc, texts, "v.", robot),
-    }
-}
-
 /// Puts names, each behind a prefix.
 fn put_behind(
     alloc: Global,
@@ -151,6 +136,103 @@ fn put_behind(
         texts.push(text)?;
     }
     Ok(())
+}
+
+/// The name of the row of a constraint in a direction.
+fn row_name(alloc: Global, c: &Constraint, direction: Direction) -> Result<String, AllocError>
+    ensures { IfOk result (λ name. string_bytes name ≡ row_name c.now direction) }
+{
+    let mut name = String::from_str(alloc, c.name.as_str())?;
+    name.push_str(".")?;
+    name.push_str(direction.letter())?;
+    Ok(name)
+}
+
+/// Puts the name of the row of a constraint in a direction, where it is held.
+fn put_row_name(
+    alloc: Global,
+    texts: &mut Vec<String>,
+    held: bool,
+    c: &Constraint,
+    direction: Direction,
+) -> Result<(), AllocError>
+    ensures { OnOk result (map string_bytes texts.new.items ≡ map string_bytes texts.old.items ++ map (row_name c.now) (where_held held direction [])) }
+{
+    if held {
+        texts.push(row_name(alloc, c, direction)?)?;
+    }
+    Ok(())
+}
+
+/// Puts the names of the rows of a constraint.
+#[tactic(auto, unfolding(rb_constraint::specs::Axes::directions))]
+fn put_own_names(alloc: Global, texts: &mut Vec<String>, c: &Constraint) -> Result<(), AllocError>
+    ensures { OnOk result (map string_bytes texts.new.items ≡ map string_bytes texts.old.items ++ own_names c.now) }
+{
+    put_row_name(alloc, texts, c.axes.x, c, Direction::AlongX)?;
+    put_row_name(alloc, texts, c.axes.y, c, Direction::AlongY)?;
+    put_row_name(alloc, texts, c.axes.z, c, Direction::AlongZ)?;
+    put_row_name(alloc, texts, c.axes.a, c, Direction::AboutX)?;
+    put_row_name(alloc, texts, c.axes.b, c, Direction::AboutY)?;
+    put_row_name(alloc, texts, c.axes.c, c, Direction::AboutZ)
+}
+
+/// The names of the rows of all constraints.
+fn row_texts(alloc: Global, cons: &Constraints) -> Result<Vec<String>, AllocError>
+    ensures { IfOk result (λ texts. map string_bytes texts.items ≡ row_names cons.now) }
+{
+    let mut texts = Vec::new(alloc);
+    for c in cons.as_slice() {
+        put_own_names(alloc, &mut texts, c)?;
+    }
+    Ok(texts)
+}
+
+/// Puts the names of the rows of all constraints, each behind a prefix.
+fn put_row_names(
+    alloc: Global,
+    texts: &mut Vec<String>,
+    prefix: &str,
+    cons: &Constraints,
+) -> Result<(), AllocError>
+    ensures { OnOk result (map string_bytes texts.new.items ≡ map string_bytes texts.old.items ++ behind prefix.now (row_names cons.now)) }
+{
+    let names = row_texts(alloc, cons)?;
+    put_behind(alloc, texts, prefix, names.as_slice())
+}
+
+/// Puts the names of columns behind one prefix, and then those of rows of constraints behind another.
+fn put_columns_and_rows(
+    alloc: Global,
+    texts: &mut Vec<String>,
+    of_columns: &str,
+    robot: &Robot,
+    of_rows: &str,
+    cons: &Constraints,
+) -> Result<(), AllocError>
+    ensures { OnOk result (map string_bytes texts.new.items ≡ map string_bytes texts.old.items ++ (columns_behind of_columns.now robot.now ++ behind of_rows.now (row_names cons.now))) }
+{
+    put_columns(alloc, texts, of_columns, robot)?;
+    put_row_names(alloc, texts, of_rows, cons)
+}
+
+/// Puts the names of a task's values.
+fn put_value_names(
+    alloc: Global,
+    texts: &mut Vec<String>,
+    robot: &Robot,
+    cons: &Constraints,
+    task: Task,
+) -> Result<(), AllocError>
+    ensures { OnOk result (map string_bytes texts.new.items ≡ map string_bytes texts.old.items ++ value_names robot.now cons.now task) }
+{
+    match task {
+        Task::Rnea => put_columns(alloc, texts, "tau.", robot),
+        Task::Crba => put_mass_names(alloc, texts, robot.nv()),
+        Task::Fd | Task::Aba => put_columns(alloc, texts, "a.", robot),
+        Task::Contact => put_columns_and_rows(alloc, texts, "a.", robot, "lam.", cons),
+        Task::Impulse => put_columns_and_rows(alloc, texts, "v.", robot, "imp.", cons),
+    }
 }
 
 /// Puts the columns of the state, where they are given again.
@@ -185,21 +267,28 @@ fn leading_names(alloc: Global) -> Result<Vec<String>, AllocError>
 fn head_names(
     alloc: Global,
     robot: &Robot,
+    cons: &Constraints,
     task: Task,
     echo: bool,
 ) -> Result<Vec<String>, AllocError>
-    ensures { IfOk result (λ texts. map string_bytes texts.items ≡ head_fields robot.now task echo) }
+    ensures { IfOk result (λ texts. map string_bytes texts.items ≡ head_fields robot.now cons.now task echo) }
 {
     let mut texts = leading_names(alloc)?;
     put_echoed_names(alloc, &mut texts, robot, echo)?;
-    put_value_names(alloc, &mut texts, robot, task)?;
+    put_value_names(alloc, &mut texts, robot, cons, task)?;
     Ok(texts)
 }
 
 /// The first line of the output, ended by LF. Its one refusal is for want of memory.
-pub fn head_line(alloc: Global, robot: &Robot, task: Task, echo: bool) -> Result<Text, AllocError>
-    ensures { IfOk result (λ line. line ≡ line_of (head_fields robot.now task echo)) }
+pub fn head_line(
+    alloc: Global,
+    robot: &Robot,
+    cons: &Constraints,
+    task: Task,
+    echo: bool,
+) -> Result<Text, AllocError>
+    ensures { IfOk result (λ line. line ≡ line_of (head_fields robot.now cons.now task echo)) }
 {
-    let names = head_names(alloc, robot, task, echo)?;
+    let names = head_names(alloc, robot, cons, task, echo)?;
     line_of(alloc, names.as_slice())
 }
