@@ -29,7 +29,7 @@ found_built test (first ∷ others) order built is = by_test (test first) (found
 
 order_built : (word : Text) (order : Order) → order_of word ≡ Ok order → IsBuilt order
 unfolding order_of
-order_built word order is = found_built (λ order. bytes_eq word (order_word order)) orders order (tt, (tt, (tt, (tt, (tt, (tt, tt)))))) (found-ok (find (λ order. bytes_eq word (order_word order)) orders) Task order is)
+order_built word order is = found_built (λ order. bytes_eq word (order_word order)) orders order (tt, (tt, (tt, (tt, (tt, (tt, (tt, tt))))))) (found-ok (find (λ order. bytes_eq word (order_word order)) orders) Task order is)
 
 matches_built : (rows : List Row) (command : Asked) → asked_in rows ≡ Ok command → IsBuilt command.order
 unfolding asked_in

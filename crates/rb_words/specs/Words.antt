@@ -16,7 +16,7 @@ use Rattle.rb_tags.specs.declared.root.RootKind.{RootKind}
 use Rattle.rb_tags.specs.declared.root.RootKind.TheVariants.{Fixed, Planar, Floating}
 use Rattle.rb_rows.specs.Head as Tasks
 use Rattle.rb_rows.specs.Head.{task_word}
-use Rattle.rb_rows.specs.declared.task.Task.TheVariants.{Rnea, Crba, Fd, Aba}
+use Rattle.rb_rows.specs.declared.task.Task.TheVariants.{Rnea, Crba, Fd, Aba, Contact}
 use Rattle.rb_words.specs.declared.faults.WordsFault.{WordsFault}
 use Rattle.rb_words.specs.declared.faults.WordsFault.TheVariants.{Words, Task, Root, Gravity}
 use Rattle.rb_words.specs.declared.order.Order.{Order}
@@ -38,7 +38,7 @@ order_word Columns = codes "columns"
 
 -- the orders that are built
 abbrev pub orders : List Order
-orders = Rows Rnea ∷ Rows Crba ∷ Rows Fd ∷ Rows Aba ∷ Model ∷ Columns ∷ []
+orders = Rows Rnea ∷ Rows Crba ∷ Rows Fd ∷ Rows Aba ∷ Rows Contact ∷ Model ∷ Columns ∷ []
 
 -- of the tasks over rows, those whose rows are answered
 abbrev pub IsBuilt : Order → Type 0

@@ -39,6 +39,7 @@ pub(crate) fn read_order(word: &str) -> Result<Order, WordsFault>
         "crba" => Ok(Order::Rows(Task::Crba)),
         "fd" => Ok(Order::Rows(Task::Fd)),
         "aba" => Ok(Order::Rows(Task::Aba)),
+        "contact" => Ok(Order::Rows(Task::Contact)),
         "model" => Ok(Order::Model),
         "columns" => Ok(Order::Columns),
         _ => Err(WordsFault::Task),
