@@ -5,6 +5,7 @@ pub mod HeaderSteps
 pub mod RowSteps
 pub mod PlainRows
 pub mod Putting
+pub mod RowNames
 pub mod HeadNames
 pub mod TextLines
 pub mod HeaderLaws

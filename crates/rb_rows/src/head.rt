@@ -3,7 +3,7 @@ ghost use Rattle.std.specs.Prelude.{◌≡◌, ◌≤◌, ◌++◌, ◌∷◌, [
 ghost use Rattle.std.specs.Str.{IsUtf8};
 ghost use Rattle.csv.specs.Writing.{default_writer, row_text};
 ghost use Rattle.rb_tree.specs.Columns.{column_count};
-ghost use Rattle.rb_constraint.specs.Axes.{where_held, directions};
+ghost use Rattle.rb_constraint.specs.Axes.{where_held};
 ghost use Rattle.rb_tree.specs.declared.sizes.TheConstants.{MAX_COLUMNS};
 ghost use Rattle.rb_rows.specs.Columns.{behind, columns_behind, state_columns};
 ghost use Rattle.rb_rows.specs.Head.{line_of, pairs_at, mass_name, mass_names, row_name, own_names, row_names, value_names, echoed_names, head_fields};
@@ -165,7 +165,6 @@ fn put_row_name(
 }
 
 /// Puts the names of the rows of a constraint.
-#[tactic(auto, unfolding(rb_constraint::specs::Axes::directions))]
 fn put_own_names(alloc: Global, texts: &mut Vec<String>, c: &Constraint) -> Result<(), AllocError>
     ensures { OnOk result (map string_bytes texts.new.items ≡ map string_bytes texts.old.items ++ own_names c.now) }
 {
@@ -174,7 +173,8 @@ fn put_own_names(alloc: Global, texts: &mut Vec<String>, c: &Constraint) -> Resu
     put_row_name(alloc, texts, c.axes.z, c, Direction::AlongZ)?;
     put_row_name(alloc, texts, c.axes.a, c, Direction::AboutX)?;
     put_row_name(alloc, texts, c.axes.b, c, Direction::AboutY)?;
-    put_row_name(alloc, texts, c.axes.c, c, Direction::AboutZ)
+    put_row_name(alloc, texts, c.axes.c, c, Direction::AboutZ)?;
+    Ok(())
 }
 
 /// The names of the rows of all constraints.
