@@ -1,5 +1,6 @@
 //! Headers of tables with faults counted by hand, and the lines of names.
 use crate::robots::{ARM, BLOCK, FOLLOWER, robot_on};
+use rb_constraint::{Constraints, read_constraints};
 use rb_rows::{Header, HeaderFault, HeaderKind, Target, Task, column_line, head_line};
 use rb_tags::{RootKind, Text};
 use rb_tree::Robot;
@@ -110,29 +111,52 @@ fn columns_are_named_in_a_line(rt: HostRuntime) -> Result<(), Fail> {
     Ok(())
 }
 
-// A robot, a task, whether the numbers of a row are told, and the first line.
-const HEADS: [(&str, Task, bool, &str); 5] = [
+// Two constraints, of which the first holds points along x and turns about z.
+const GRIPS: &str =
+    "name,axes,link1,x1,y1,z1,link2,x2,y2,z2,mu,e\ngrip,xc,lower,,,,,,,,,\nrail,y,upper,,,,,,,,,\n";
+
+// The constraints of a file, or none where there is no file.
+fn constraints_of(alloc: Global, robot: &Robot, text: &str) -> Option<Constraints> {
+    if text.is_empty() {
+        return Some(Constraints::none(alloc));
+    }
+    read_constraints(alloc, text.as_bytes(), robot).ok()
+}
+
+// A robot, its constraints, a task, whether the numbers of a row are told, and the first line.
+const HEADS: [(&str, &str, Task, bool, &str); 6] = [
     (
         ARM,
+        GRIPS,
         Task::Rnea,
         false,
         "row,answer,cause,tau.lift,tau.turn\n",
     ),
     (
         ARM,
+        "",
         Task::Crba,
         false,
         "row,answer,cause,M.1.1,M.1.2,M.2.2\n",
     ),
-    (ARM, Task::Fd, false, "row,answer,cause,a.lift,a.turn\n"),
+    (ARM, "", Task::Fd, false, "row,answer,cause,a.lift,a.turn\n"),
     (
         ARM,
+        GRIPS,
+        Task::Contact,
+        false,
+        "row,answer,cause,a.lift,a.turn,lam.grip.x,lam.grip.c,lam.rail.y\n",
+    ),
+    (
+        ARM,
+        GRIPS,
         Task::Impulse,
         false,
-        "row,answer,cause,v.lift,v.turn\n",
+        "row,answer,cause,v.lift,v.turn,imp.grip.x,imp.grip.c,imp.rail.y\n",
     ),
     (
         FOLLOWER,
+        "",
         Task::Crba,
         true,
         "row,answer,cause,in.q.lift,in.v.lift,in.a.lift,in.tau.lift,M.1.1\n",
@@ -141,10 +165,11 @@ const HEADS: [(&str, Task, bool, &str); 5] = [
 
 #[test]
 fn the_first_line_names_the_values_of_the_task(rt: HostRuntime) -> Result<(), Fail> {
-    for (text, task, echo, line) in HEADS {
+    for (text, grips, task, echo, line) in HEADS {
         let robot = robot_on(rt.alloc(), text, None).ok_or("a robot")?;
+        let cons = constraints_of(rt.alloc(), &robot, grips).ok_or("constraints")?;
         assert!(rt;
-            is_line(head_line(rt.alloc(), &robot, task, echo), line),
+            is_line(head_line(rt.alloc(), &robot, &cons, task, echo), line),
             "at {line}"
         );
     }

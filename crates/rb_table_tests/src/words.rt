@@ -59,14 +59,14 @@ fn options_come_in_any_order(rt: HostRuntime) -> Result<(), Fail> {
         "--srdf",
         "arm.srdf",
         "--task",
-        "columns",
+        "contact",
     ];
     let words = words_of(alloc, &line)?;
     let mut told = String::new(alloc);
     let read = read_words(alloc, words.as_slice(), &mut told);
     assert!(rt; read.is_ok());
     if let Ok(command) = &read {
-        assert_eq!(rt; command.order, Order::Columns);
+        assert_eq!(rt; command.order, Order::Rows(Task::Contact));
         assert!(rt; command.urdf == "arm.urdf" && command.rows == "table.csv");
         assert!(rt; command.srdf == Some("arm.srdf") && command.state == Some("half"));
         assert!(rt; command.root == Some(RootKind::Floating) && command.echo);
@@ -89,7 +89,7 @@ const FAULTS: [(&[&str], WordsFault); 8] = [
         &["--task", "rnea", "--urdf", "a", "--urdf", "a"],
         WordsFault::Words,
     ),
-    (&["--task=", "--urdf", "a"], WordsFault::Task),
+    (&["--task", "impulse", "--urdf", "a"], WordsFault::Task),
     (
         &[
             "--task",
