@@ -1,5 +1,5 @@
 -- The names of the rows of a constraint, one after the other.
-use Rattle.std.proofs.Common.{◌≡◌, ℕ, List, [], ◌∷◌, ◌++◌, Bool, true, false, map, refl, ◌∙◌, ap, append_assoc}
+use Rattle.std.proofs.Common.{◌≡◌, List, [], ◌++◌, Bool, true, false, map, refl, ◌∙◌, ap, append_assoc}
 use Rattle.rb_constraint.specs.Axes.{where_held, directions}
 use Rattle.rb_constraint.specs.declared.axes.Axes.{Axes}
 use Rattle.rb_constraint.specs.declared.axes.Direction.{Direction}

@@ -2,7 +2,7 @@ use Rattle.std.proofs.Common.{◌<◌, ◌∙◌, ap, arith, length}
 use Rattle.std.proofs.lemmas.Result.{err_from_is_err_and}
 use Rattle.rb_rows.specs.Plain.{parts_of}
 use Rattle.rb_rows.proofs.PlainRows.{FirstPart, part_here, parts_left}
-use Rattle.rb_rows.proofs.RowSteps.{places_stay, read_none, read_more, read_whole}
+use Rattle.rb_rows.proofs.RowSteps.{places_stay, read_more, read_whole}
 use Rattle.rb_rows.proofs.row.read_parts.Goals as goal
 
 pub read_at-requires-clause-places : goal.read_at-requires-clause-places
