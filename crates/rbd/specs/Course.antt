@@ -41,7 +41,7 @@ ending None slots = Ok (list_any is_refused slots)
 ending (Some fault) slots = Err (AtRows fault)
 
 abbrev pub head_of : Job → List ℕ
-head_of job = Head.line_of (Head.head_fields job.robot job.task job.echo)
+head_of job = Head.line_of (Head.head_fields job.robot job.cons job.task job.echo)
 
 abbrev pub lines_of : Job → List Slot → List (List ℕ)
 lines_of job slots = map (line_of job.echo) slots

@@ -1,13 +1,13 @@
 -- Room for one row.
 use Rattle.std.specs.Prelude.{◌≤◌, ◌+◌, length}
-use Rattle.rb_tree.specs.Places.{IsFor}
 use Rattle.rb_run.specs.declared.job.Job.{Job}
+use Rattle.rb_run.specs.Jobs.{IsWorkOf}
 use Rattle.rb_run.specs.Line.{line_room}
 use Rattle.rb_run.specs.Slots.{IsSlotOf}
 use Rattle.rbd.specs.declared.desk.Desk.{Desk}
 
--- the slot is one of the job, the work is for its robot, and there is room for the longest line
+-- the slot and the work are of the job, and there is room for the longest line
 pub record IsDeskOf (job : Job) (desk : Desk) : Type 0 where
   pub slot : IsSlotOf job desk.slot
-  pub work : IsFor job.robot desk.work
+  pub work : IsWorkOf job desk.work
   pub room : line_room job ≤ desk.line.spare + length desk.line.bytes

@@ -29,20 +29,20 @@ pub record IsTold (inputs : Source) (out : Stream) (ended : Status) : Type 0 whe
 
 -- ---- rows
 
--- the line says `ok` and these values, which are those of the one answer: for each choice within the brackets of the robot and the row, the equations of the task have exactly one
--- solution, and it lies in the values that the line prints
+-- the line says `ok` and these values, which are those of the one answer: for each choice within the brackets of the robot, the constraints and the row, the equations of
+-- the task have exactly one solution, and it lies in the values that the line prints
 pub record IsAnswered (job : Job) (number : ℕ) (row : Row) (line : List ℕ) : Type 0 where
   pub values : List Interval
   pub says : line ≡ line_of job.echo (done_slot number row values)
-  pub exact : answer_for job.task job.robot row ≡ Ok values
-  pub means : Encloses job.task job.robot row values
+  pub exact : answer_for job.task job.robot job.cons row ≡ Ok values
+  pub means : Encloses job.task job.robot job.cons row values
 
 -- the line names the first quantity that is refused, and that is the one answer
 pub record IsRefusal (job : Job) (number : ℕ) (row : Row) (line : List ℕ) : Type 0 where
   pub fault : RowFault
   pub says : line ≡ line_of job.echo (refused_slot job number row fault)
-  pub exact : answer_for job.task job.robot row ≡ Err fault
-  pub means : IsRefusedFor job.task job.robot row fault
+  pub exact : answer_for job.task job.robot job.cons row ≡ Err fault
+  pub means : IsRefusedFor job.task job.robot job.cons row fault
 
 -- what the line of a row means
 abbrev pub Means : Job → ℕ → Told → List ℕ → Type 0

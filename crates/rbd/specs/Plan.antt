@@ -23,6 +23,7 @@ use Rattle.rb_tree.specs.Build.{Source, IsBuilt}
 use Rattle.rb_tree.specs.Refusals.{HasFault}
 use Rattle.rb_constraint.specs.declared.constraints.Constraint.{Constraint}
 use Rattle.rb_constraint.specs.declared.faults.ConFault.{ConFault}
+use Rattle.rb_constraint.specs.Constraints.{AreConstraints}
 use Rattle.rb_constraint.specs.File.{IsFile}
 use Rattle.rb_constraint.specs.Refusals as Constraints
 use Rattle.rb_rows.specs.declared.task.Task.{Task}
@@ -143,6 +144,7 @@ IsStart tree gravity (Some name) start = IsNamed tree gravity name start
 pub record IsConstraintsFile (tree : Tree) (bytes : List ℕ) (constraints : List Constraint) : Type 0 where
   pub short : length bytes ≤ most_file
   pub is : IsFile tree bytes constraints
+  pub kept : AreConstraints constraints
 
 -- of the file where it is given, else none
 abbrev pub IsConstraintsIn : Tree → Option (List ℕ) → List Constraint → Type 0
@@ -181,9 +183,9 @@ plan order tree start constraints rows echo =
 abbrev pub plan_of : Asked → Tree → Row → List Constraint → Plan
 plan_of command tree start constraints = plan command.order tree start constraints command.rows command.echo
 
--- what is asked of each row
+-- what is asked of each row. Only `contact` looks at the constraints.
 abbrev pub job_of : Plan → Task → Job
-job_of plan task = record { robot = plan.tree; task = task; echo = plan.echo }
+job_of plan task = record { robot = plan.tree; cons = plan.constraints; task = task; echo = plan.echo }
 
 -- articulated bodies, which are asked only of a robot in which no joint follows another
 abbrev pub articulated : Order

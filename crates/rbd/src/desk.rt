@@ -1,23 +1,22 @@
 //! The buffers in which rows are answered, one after the other.
 ghost use Rattle.std.specs.Prelude.{◌≡◌, ◌≤◌, length, OnOk, IfOk};
 ghost use Rattle.rb_io.specs.declared.lines.TheConstants.{MOST_LINE};
-ghost use Rattle.rb_tree.specs.Places.{IsFor};
 ghost use Rattle.rb_tree.specs.State.{Fits};
 ghost use Rattle.rb_rows.specs.Header.{HasPlaces};
 ghost use Rattle.rb_rows.specs.Row.{row_of};
 ghost use Rattle.rb_run.specs.Answers.{Holds, slot_of, is_refused};
-ghost use Rattle.rb_run.specs.Jobs.{IsJob};
+ghost use Rattle.rb_run.specs.Jobs.{IsJob, IsWorkOf};
 ghost use Rattle.rb_run.specs.Line.{line_of};
 ghost use Rattle.rbd.specs.Desk.{IsDeskOf};
 
 use rb_rows::{Header, LineFault, read_row};
 use rb_run::{Job, Slot, SlotInput, answer_slot, line_room, put_line};
 use rb_text::Out;
-use rb_tree::{Robot, State};
+use rb_tree::State;
 use rb_work::Work;
 use std::alloc::{AllocError, Global};
 
-/// Room for one row of a job, for the quantities of its robot, and for a line.
+/// Room for one row of a job, for the quantities of its robot and its constraints, and for a line.
 #[derive(Drop)]
 pub(crate) struct Desk {
     pub(crate) slot: Slot,
@@ -25,11 +24,13 @@ pub(crate) struct Desk {
     pub(crate) line: Out,
 }
 
-/// A work for the rows of a robot, without rows of constraints.
-fn work_for(alloc: Global, robot: &Robot) -> Result<Work, AllocError>
-    ensures { IfOk result (IsFor robot.now) }
+/// A work for the rows of a job.
+fn work_for(alloc: Global, job: &Job) -> Result<Work, AllocError>
+    ensures { IfOk result (IsWorkOf job.now) }
 {
-    Work::new(alloc, robot.bodies(), robot.full(), robot.ups(), 0)
+    let robot = &job.robot;
+    let rows = job.cons.rows();
+    Work::new(alloc, robot.bodies(), robot.full(), robot.ups(), rows)
 }
 
 impl Desk {
@@ -38,7 +39,7 @@ impl Desk {
         ensures { IfOk result (IsDeskOf job.now) }
     {
         let slot = Slot::new(alloc, job)?;
-        let work = work_for(alloc, &job.robot)?;
+        let work = work_for(alloc, job)?;
         let line = Out::with_room(alloc, line_room(job))?;
         Ok(Desk { slot, work, line })
     }

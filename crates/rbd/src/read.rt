@@ -3,6 +3,7 @@ ghost use Rattle.std.specs.Prelude.{◌≡◌, ℕ, ◌≤◌, ◌<◌, ◌⊎�
 ghost use Rattle.std.specs.Str.{IsUtf8};
 ghost use Rattle.std.specs.Option.{IsSomeAnd};
 ghost use Rattle.rb_result.specs.Steps.{told_as};
+ghost use Rattle.rb_flat.specs.Contact.{RowsFit};
 ghost use Rattle.rb_io.specs.Outside.{Rose};
 ghost use Rattle.rb_urdf.specs.Urdf.{urdf_of};
 ghost use Rattle.rb_srdf.specs.Groups.{HoldsItself};
@@ -11,7 +12,9 @@ ghost use Rattle.rb_tree.specs.declared.faults.WhichFile.{WhichFile as Which};
 ghost use Rattle.rb_tree.specs.Build.{IsBuilt};
 ghost use Rattle.rb_tree.specs.Robot.{AreBodies};
 ghost use Rattle.rb_tree.specs.State.{Fits, neutral_under};
+ghost use Rattle.rb_tree.specs.Shape.{shape_of};
 ghost use Rattle.rb_tree.specs.States.{HasState};
+ghost use Rattle.rb_constraint.specs.Constraints.{constraints_of};
 ghost use Rattle.rbd.specs.Plan.{tags_in, urdf_in, files, IsSemanticsIn, HasNoSemantics, IsRefusedBy, IsUnfit, IsRobotOf, IsRefused, IsStart, IsConstraintsFile, IsConstraintsIn, HasNoConstraints, most_file};
 ghost use Rattle.rbd.specs.Inputs.{most_rows};
 ghost use Rattle.rbd.specs.Stops.{IfFault, IfRefused, file_stop};
@@ -216,6 +219,7 @@ fn read_constraints_in<I: Inputs>(
     ensures tells { I.tells inputs.new ≡ I.tells inputs.old }
     ensures holds { I.holds inputs.new ≡ I.holds inputs.old }
     ensures constraints { IsTrue (I.tells inputs.old) → IfOk result (IsConstraintsFile robot.now (I.holds inputs.old name.now)) }
+    ensures fit { IfOk result (λ cons. RowsFit (shape_of robot.now) (constraints_of cons)) }
     ensures refused { IsTrue (I.tells inputs.old) → IfErr result (IfFault (HasNoConstraints robot.now (Some (I.holds inputs.old name.now)))) }
     ensures long { IsErrOf result (ReadStop.Fault ConstraintsFault.TooLong) → most_file < I.given inputs.new }
     ensures rose { IsErrOf result ReadStop.Input → Rose (I.faults inputs.old) (I.faults inputs.new) }
@@ -226,7 +230,10 @@ fn read_constraints_in<I: Inputs>(
         Err(fault) => return Err(file_stop(fault, ConstraintsFault::TooLong)),
     };
     match read_constraints(alloc, bytes.as_slice(), robot) {
-        Ok(constraints) => Ok(constraints),
+        Ok(constraints) => {
+            let _kept = constraints.as_slice();
+            Ok(constraints)
+        }
         Err(fault) => Err(of_con(fault)),
     }
 }
@@ -241,6 +248,7 @@ pub(crate) fn read_constraints_of<I: Inputs>(
     ensures tells { I.tells inputs.new ≡ I.tells inputs.old }
     ensures holds { I.holds inputs.new ≡ I.holds inputs.old }
     ensures constraints { IsTrue (I.tells inputs.old) → IfOk result (IsConstraintsIn robot.now (option_map (λ name. I.holds inputs.old name) (option_copied name.entry))) }
+    ensures fit { IfOk result (λ cons. RowsFit (shape_of robot.now) (constraints_of cons)) }
     ensures refused { IsTrue (I.tells inputs.old) → IfErr result (IfFault (HasNoConstraints robot.now (option_map (λ name. I.holds inputs.old name) (option_copied name.entry)))) }
     ensures long { IsErrOf result (ReadStop.Fault ConstraintsFault.TooLong) → most_file < I.given inputs.new }
     ensures rose { IsErrOf result ReadStop.Input → Rose (I.faults inputs.old) (I.faults inputs.new) }

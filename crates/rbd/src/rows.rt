@@ -155,7 +155,7 @@ fn prepare(alloc: Global, job: &Job) -> Result<(Text, Desk), AllocError>
     ensures first { IfOk result (λ made. made.0 ≡ head_of job.now) }
     ensures desk { IfOk result (λ made. IsDeskOf job.now made.1) }
 {
-    let first = head_line(alloc, &job.robot, job.task, job.echo)?;
+    let first = head_line(alloc, &job.robot, &job.cons, job.task, job.echo)?;
     Ok((first, Desk::new(alloc, job)?))
 }
 

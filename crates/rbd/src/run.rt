@@ -3,11 +3,14 @@ ghost use Rattle.std.specs.Prelude.{◌≡◌, ◌⊎◌, ◌++◌, [], Bool, tr
 ghost use Rattle.rb_io.specs.Outside.{Rose};
 ghost use Rattle.rb_io.specs.Calls.{PutsPart};
 ghost use Rattle.rb_result.specs.Steps.{told_as};
+ghost use Rattle.rb_flat.specs.Contact.{RowsFit};
+ghost use Rattle.rb_constraint.specs.Constraints.{constraints_of};
 ghost use Rattle.rb_model.specs.Model.{model_text};
 ghost use Rattle.rb_rows.specs.Columns.{state_columns};
 ghost use Rattle.rb_rows.specs.Head.{line_of as text_of_names};
 ghost use Rattle.rb_run.specs.Jobs.{IsJob};
 ghost use Rattle.rb_tree.specs.Columns.{has_mimic};
+ghost use Rattle.rb_tree.specs.Shape.{shape_of};
 ghost use Rattle.rb_tree.specs.State.{Fits};
 ghost use Rattle.rb_words.specs.Words.{IsBuilt};
 ghost use Rattle.rbd.specs.Course.{tells as text_course};
@@ -24,6 +27,7 @@ use crate::status::Status;
 use crate::stop::{
     RowsStop, Stop, UsageFault, of_constraints, of_reading, of_robot, of_rows, of_start, of_words,
 };
+use rb_constraint::Constraints;
 use rb_io::{Inputs, Sink, put_all};
 use rb_model::model_text;
 use rb_rows::column_line;
@@ -76,7 +80,7 @@ fn answer_rows<I: Inputs, O: Sink>(
     requires task { IsJob job.now }
     requires start { Fits job.now.robot start.now }
     ensures tells { IsTrue (O.tells out.new) → IsTrue (O.tells out.old) }
-    ensures obeys { Obeys (plan (Order.Rows job.now.task) job.now.robot start.now [] name.now job.now.echo)
+    ensures obeys { Obeys (plan (Order.Rows job.now.task) job.now.robot start.now job.now.cons name.now job.now.echo)
         (source I.tells I.holds I.given I.faults inputs.old inputs.new) (stream O.tells O.put O.faults out.old out.new) result }
 {
     let rows = match read_rows(alloc, inputs, name) {
@@ -89,26 +93,29 @@ fn answer_rows<I: Inputs, O: Sink>(
     }
 }
 
-/// Does what is asked of a robot. Tells whether a row is refused.
+/// Does what is asked of a robot under constraints. Tells whether a row is refused.
 fn obey<I: Inputs, O: Sink>(
     alloc: Global,
     command: &Command<'_>,
     robot: Robot,
+    cons: Constraints,
     start: &State,
     inputs: &mut I,
     out: &mut O,
 ) -> Result<bool, Stop>
     requires built { IsBuilt command.now.order }
     requires leads { Leads command.now.order robot }
+    requires fit { RowsFit (shape_of robot) (constraints_of cons) }
     requires start { Fits robot start.now }
     ensures tells { IsTrue (O.tells out.new) → IsTrue (O.tells out.old) }
-    ensures obeys { Obeys (plan command.now.order robot start.now [] command.now.rows.now command.now.echo)
+    ensures obeys { Obeys (plan command.now.order robot start.now cons command.now.rows.now command.now.echo)
         (source I.tells I.holds I.given I.faults inputs.old inputs.new) (stream O.tells O.put O.faults out.old out.new) result }
 {
     let done = match command.order {
         Order::Rows(task) => {
             let job = Job {
                 robot,
+                cons,
                 task,
                 echo: command.echo,
             };
@@ -135,7 +142,7 @@ fn is_unfit(order: Order, robot: &Robot) -> bool
     }
 }
 
-/// The steps of a run, up to the first that stops it. Tells whether a row is refused. No task uses the constraints.
+/// The steps of a run, up to the first that stops it. Tells whether a row is refused. Only `contact` uses the constraints.
 fn steps<I: Inputs, O: Sink>(
     alloc: Global,
     words: &[String],
@@ -162,11 +169,11 @@ fn steps<I: Inputs, O: Sink>(
     if is_unfit(command.order, &robot) {
         return Err(Stop::Usage(UsageFault::Mimic));
     }
-    let _constraints = match read_constraints_of(alloc, inputs, &robot, command.constraints) {
-        Ok(constraints) => constraints,
+    let cons = match read_constraints_of(alloc, inputs, &robot, command.constraints) {
+        Ok(cons) => cons,
         Err(stop) => return Err(of_constraints(stop)),
     };
-    obey(alloc, &command, robot, &start, inputs, out)
+    obey(alloc, &command, robot, cons, &start, inputs, out)
 }
 
 /// Says a line, and what comes behind it.

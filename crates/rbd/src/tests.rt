@@ -28,6 +28,10 @@ const STACK: &[u8] =
 const LEAF: &[u8] =
     br#"<robot name="leaf"><link name="base"/><link name="tip"/><joint name="hinge" type="revolute"><parent link="base"/><child link="tip"/><axis xyz="0 1 0"/></joint></robot>"#;
 
+// Three bars between hinges, of which the second hangs on the first.
+const BARS: &[u8] =
+    br#"<robot name="fourbar"><link name="base"/><link name="crank"><inertial><inertia ixx="0" ixy="0" ixz="0" iyy="1" iyz="0" izz="0"/></inertial></link><link name="coupler"><inertial><mass value="1"/><inertia ixx="0" ixy="0" ixz="0" iyy="1" iyz="0" izz="0"/></inertial></link><link name="rocker"><inertial><inertia ixx="0" ixy="0" ixz="0" iyy="1" iyz="0" izz="0"/></inertial></link><joint name="crank" type="revolute"><parent link="base"/><child link="crank"/><axis xyz="0 1 0"/></joint><joint name="coupler" type="revolute"><parent link="crank"/><child link="coupler"/><origin xyz="0 0 1"/><axis xyz="0 1 0"/></joint><joint name="rocker" type="revolute"><parent link="base"/><child link="rocker"/><origin xyz="1 0 0"/><axis xyz="0 1 0"/></joint></robot>"#;
+
 // The poses of the arm.
 const POSE: &[u8] =
     br#"<robot name="arm"><group name="all"><joint name="hinge"/></group><group_state name="half" group="all"><joint name="hinge" value="0.5"/></group_state></robot>"#;
@@ -354,6 +358,74 @@ fn tasks_have_their_values(rt: HostRuntime) -> Result<(), Fail> {
     Ok(())
 }
 
+// A robot, two words behind the task, constraints, a table, the status, and what is put.
+const HELD: [(&[u8], [&str; 2], &[u8], &[u8], Status, &[u8]); 5] = [
+    // a point of the box is held: the force is its weight
+    (
+        BOX,
+        ["--root", "floating"],
+        b"name,axes,link1,x1,y1,z1,link2,x2,y2,z2,mu,e\nfoot,xyz,box,0,0,0,,0,0,0,0,0\n",
+        b"v.root_joint.vx\n0\n",
+        Status::Done,
+        b"row,answer,cause,a.root_joint.vx,a.root_joint.vy,a.root_joint.vz,a.root_joint.wx,a.root_joint.wy,a.root_joint.wz,lam.foot.x,lam.foot.y,lam.foot.z\n1,ok,,0.000000000000..0.000000000000,0.000000000000..0.000000000000,0.000000000000..0.000000000000,0.000000000000..0.000000000000,0.000000000000..0.000000000000,0.000000000000..0.000000000000,0.000000000000..0.000000000000,0.000000000000..0.000000000000,9.810000000000..9.810000000000\n",
+    ),
+    // the box is held twice
+    (
+        BOX,
+        ["--root", "floating"],
+        b"name,axes,link1,x1,y1,z1,link2,x2,y2,z2,mu,e\none,xyzabc,box,,,,,,,,0,0\ntwo,xyzabc,box,,,,,,,,0,0\n",
+        b"v.root_joint.vx\n0\n",
+        Status::Refused,
+        b"row,answer,cause,a.root_joint.vx,a.root_joint.vy,a.root_joint.vz,a.root_joint.wx,a.root_joint.wy,a.root_joint.wz,lam.one.x,lam.one.y,lam.one.z,lam.one.a,lam.one.b,lam.one.c,lam.two.x,lam.two.y,lam.two.z,lam.two.a,lam.two.b,lam.two.c\n1,pivot,C[7]=0.000000000000..0.000000000000,,,,,,,,,,,,,,,,,,\n",
+    ),
+    // each gives way as much as the box has mass: a third of the weight
+    (
+        BOX,
+        ["--root", "floating"],
+        b"name,axes,link1,x1,y1,z1,link2,x2,y2,z2,mu,e\none,xyzabc,box,,,,,,,,1,0\ntwo,xyzabc,box,,,,,,,,1,0\n",
+        b"v.root_joint.vx\n0\n",
+        Status::Done,
+        b"row,answer,cause,a.root_joint.vx,a.root_joint.vy,a.root_joint.vz,a.root_joint.wx,a.root_joint.wy,a.root_joint.wz,lam.one.x,lam.one.y,lam.one.z,lam.one.a,lam.one.b,lam.one.c,lam.two.x,lam.two.y,lam.two.z,lam.two.a,lam.two.b,lam.two.c\n1,ok,,0.000000000000..0.000000000000,0.000000000000..0.000000000000,-3.270000000000..-3.270000000000,0.000000000000..0.000000000000,0.000000000000..0.000000000000,0.000000000000..0.000000000000,0.000000000000..0.000000000000,0.000000000000..0.000000000000,3.270000000000..3.270000000000,0.000000000000..0.000000000000,0.000000000000..0.000000000000,0.000000000000..0.000000000000,0.000000000000..0.000000000000,0.000000000000..0.000000000000,3.270000000000..3.270000000000,0.000000000000..0.000000000000,0.000000000000..0.000000000000,0.000000000000..0.000000000000\n",
+    ),
+    // four bars are closed to a loop
+    (
+        BARS,
+        ["--gravity", "0,0,0"],
+        b"name,axes,link1,x1,y1,z1,link2,x2,y2,z2,mu,e\nloop,xz,coupler,1,0,0,rocker,0,0,1,0,0\n",
+        b"tau.crank\n3\n",
+        Status::Done,
+        b"row,answer,cause,a.crank,a.coupler,a.rocker,lam.loop.x,lam.loop.z\n1,ok,,1.000000000000..1.000000000000,-1.000000000000..-1.000000000000,1.000000000000..1.000000000000,-1.000000000000..-1.000000000000,0.000000000000..0.000000000000\n",
+    ),
+    // they cannot move along y
+    (
+        BARS,
+        ["--gravity", "0,0,0"],
+        b"name,axes,link1,x1,y1,z1,link2,x2,y2,z2,mu,e\nloop,xyz,coupler,1,0,0,rocker,0,0,1,0,0\n",
+        b"tau.crank\n3\n",
+        Status::Refused,
+        b"row,answer,cause,a.crank,a.coupler,a.rocker,lam.loop.x,lam.loop.y,lam.loop.z\n1,pivot,C[2]=0.000000000000..0.000000000000,,,,,,\n",
+    ),
+];
+
+#[test]
+fn constraints_hold_robots(rt: HostRuntime) -> Result<(), Fail> {
+    for (robot, words, constraints, rows, status, out) in HELD.iter() {
+        let held = Held {
+            robot,
+            poses: b"",
+            rows,
+        };
+        let mut all = Vec::from_slice(rt.alloc(), words)?;
+        all.extend_from_slice(&["--task", "contact", "--urdf", "robot.urdf"])?;
+        all.extend_from_slice(&["--constraints", "grips.csv"])?;
+        let ran = run_under(rt.alloc(), all.as_slice(), held, constraints, &[], &[])?;
+        assert_eq!(rt; ran.out.bytes(), *out);
+        assert_eq!(rt; ran.status, *status);
+        assert_eq!(rt; ran.err.bytes(), b"".as_slice());
+    }
+    Ok(())
+}
+
 // Articulated bodies are asked only of a robot in which no joint follows another.
 #[test]
 fn followers_are_refused(rt: HostRuntime) -> Result<(), Fail> {
@@ -388,7 +460,7 @@ fn runs_put_what_they_are_asked_for(rt: HostRuntime) -> Result<(), Fail> {
 // Words, the poses, the status and the line on standard error. The robot is the arm, and nothing is put.
 const REFUSED: [(&[&str], &[u8], Status, &[u8]); 9] = [
     (
-        &["--task", "contact", "--urdf", "robot.urdf"],
+        &["--task", "impulse", "--urdf", "robot.urdf"],
         b"",
         Status::Usage,
         b"rbd: usage: task\n",
@@ -576,7 +648,7 @@ fn constraints_are_refused(rt: HostRuntime) -> Result<(), Fail> {
     Ok(())
 }
 
-// Each task takes a file of constraints, here between two links and with the world, and puts what it puts without one.
+// Each task but `contact` takes a file of constraints, here between two links and with the world, and puts what it puts without one.
 #[test]
 fn tasks_pass_over_constraints(rt: HostRuntime) -> Result<(), Fail> {
     let held = Held {
