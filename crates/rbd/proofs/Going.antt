@@ -1,5 +1,5 @@
 -- The steps of a run, up to where one of them ends it.
-use Rattle.std.proofs.Common.{◌≡◌, ◌≢◌, ◌<◌, ◌≤◌, ℕ, Bool, true, false, ltb, IsTrue, List, [], length, Option, Some, None, IsSomeAnd, Result, Ok, Err, refl, sym, ap, ◌∙◌, ◌⊎◌, inl, inr, arith, subst}
+use Rattle.std.proofs.Common.{◌≡◌, ◌≢◌, ◌<◌, ◌≤◌, ℕ, Bool, true, false, ltb, IsTrue, List, length, Option, Some, None, IsSomeAnd, Result, Ok, Err, refl, sym, ap, ◌∙◌, ◌⊎◌, inl, inr, arith, subst}
 use Rattle.std.proofs.lemmas.Bool.Decides.{nat_tests}
 use Rattle.rb_io.specs.Outside.{Rose}
 use Rattle.rb_result.specs.Steps.{told_as}
@@ -14,7 +14,6 @@ use Rattle.rb_words.specs.declared.faults.WordsStop.{WordsStop}
 use Rattle.rb_words.specs.declared.faults.WordsStop.TheVariants as of_words
 use Rattle.rb_words.specs.declared.order.Order.TheVariants as order
 use Rattle.rb_words.specs.Words.{Asked, command_of}
-use Rattle.rb_words.specs.declared.order.Order.{Order}
 use Rattle.rb_constraint.specs.declared.constraints.Constraint.{Constraint}
 use Rattle.rb_run.specs.declared.job.Job.{Job}
 use Rattle.rbd.specs.declared.stop.StartStop.{StartStop}
@@ -36,7 +35,7 @@ use Rattle.rbd.specs.declared.status.Status.TheVariants as status
 use Rattle.rbd.specs.Plan.{Plan, plan, plan_of, articulated, Leads, files_of, IsRobotOf, IsRefused, IsStart, IsConstraintsIn, HasNoConstraints, constraints_held, most_file}
 use Rattle.rbd.specs.Inputs.{most_rows, rows_of, rows_of_lines}
 use Rattle.rb_io.specs.Cut.{lines_of}
-use Rattle.rbd.specs.Course.{IsCourse, stopped, Course, course_by, course_of, course_of_rows}
+use Rattle.rbd.specs.Course.{IsCourse, stopped, Course, course_of, course_of_rows}
 use Rattle.rbd.specs.Ends.{status_of}
 use Rattle.rbd.specs.Run.{Source, Stream, is_plain, Follows, EndsEarly, HasCourse, IsUsage, Obeys, Goes, IsOfCourse, IsComplete}
 use Rattle.rbd.specs.Stops.{IfFault, stop_of_read, stop_of_rows, stop_of_start, stop_of_words}
@@ -205,7 +204,7 @@ goes_constraints words command tree from inputs out read.Memory told robot_is st
 pub obeys_reading : (job : Job) (from : Row) (name : List ℕ) (inputs : Source) (out : Stream) (stop : ReadStop RowsFault) → IfFault (λ fault. fault ≡ rows.TooLong) stop
     → (IsTrue inputs.tells → stop ≡ read.Fault rows.TooLong → most_rows < length (inputs.holds name)) → (stop ≡ read.Fault rows.TooLong → most_rows < inputs.given)
     → (stop ≡ read.Input → Rose inputs.before inputs.after) → (stop ≢ read.Input → inputs.after ≡ inputs.before) → Untouched out
-    → Obeys (plan (order.Rows job.task) job.robot from [] name job.echo) inputs out (Err (stop_of_read Rows stop))
+    → Obeys (plan (order.Rows job.task) job.robot from job.cons name job.echo) inputs out (Err (stop_of_read Rows stop))
 obeys_reading job from name inputs out (read.Fault fault) only longer long rose same kept = record {
   late = refl;
   long_rows = λ is. long (ap read.Fault only);
@@ -264,33 +263,24 @@ module _ (asked : Plan) (inputs : Source) (out : Stream) (same : inputs.after �
 
 -- the rows were read whole
 pub rows_along : (job : Job) (from : Row) (name bytes : List ℕ) (inputs : Source) (out : Stream) (answer : Result Bool Stop) → (IsTrue inputs.tells → bytes ≡ inputs.holds name) → length bytes ≤ most_rows
-    → Follows (course_of_rows job from (rows_of_lines job.robot (lines_of bytes))) out answer → IsTrue inputs.tells → Follows (course_of (plan (order.Rows job.task) job.robot from [] name job.echo) inputs.holds) out answer
+    → Follows (course_of_rows job from (rows_of_lines job.robot (lines_of bytes))) out answer → IsTrue inputs.tells → Follows (course_of (plan (order.Rows job.task) job.robot from job.cons name job.echo) inputs.holds) out answer
 rows_along job from name bytes inputs out answer bytes_are short follows tells =
     subst (λ (read : List ℕ). Follows (course_of_rows job from (rows_of job.robot read)) out answer) (bytes_are tells) (rw (rows_short job.robot bytes short) follows)
 
 -- ---- behind what is asked
--- no course speaks of the constraints
-course_without : (asked : Order) (tree : Tree) (from : Row) (under : List Constraint) (name : List ℕ) (echo : Bool) (held : List ℕ → List ℕ)
-    → course_by asked (plan asked tree from [] name echo) held ≡ course_by asked (plan asked tree from under name echo) held
-course_without (order.Rows task) tree from under name echo held = refl
-course_without order.Model tree from under name echo held = refl
-course_without order.Columns tree from under name echo held = refl
-
 module _ (words : List (List ℕ)) (command : Asked) (tree : Tree) (from : Row) (under : List Constraint) (inputs inner : Source) (out : Stream) (told : command_of words ≡ Ok command)
     (robot_is : IsTrue inputs.tells → IsRobotOf command.root (files_of command inputs.holds) tree) (starts : IsStart tree command.gravity command.state from) (leads : Leads command.order tree)
     (constraints_are : IsTrue inputs.tells → IsConstraintsIn tree (constraints_held command inputs.holds) under)
     (tells_same : inner.tells ≡ inputs.tells) (holds_same : inner.holds ≡ inputs.holds) (given_same : inner.given ≡ inputs.given) (before_same : inner.before ≡ inputs.before) (after_same : inner.after ≡ inputs.after) where
-  has_course : (answer : Result Bool Stop) → IsTrue inputs.tells → EndsEarly out answer ⊎ Follows (course_of (plan_of command tree from []) inner.holds) out answer → EndsEarly out answer ⊎ HasCourse words inputs.holds out answer
+  has_course : (answer : Result Bool Stop) → IsTrue inputs.tells → EndsEarly out answer ⊎ Follows (course_of (plan_of command tree from under) inner.holds) out answer → EndsEarly out answer ⊎ HasCourse words inputs.holds out answer
   has_course answer tells (inl ends) = inl ends
   has_course answer tells (inr follows) = inr (record {
     course = course_of (plan_of command tree from under) inputs.holds;
     is = IsCourse.goes (plan_of command tree from under) (record { command = command; told = told; robot = robot_is tells; start = starts; constraints = constraints_are tells; asked = refl; leads = leads });
-    follows =
-        subst (λ (course : Course). Follows course out answer) (course_without command.order tree from under command.rows command.echo inputs.holds)
-        (subst (λ (holds : List ℕ → List ℕ). Follows (course_of (plan_of command tree from []) holds) out answer) holds_same follows);
+    follows = subst (λ (holds : List ℕ → List ℕ). Follows (course_of (plan_of command tree from under) holds) out answer) holds_same follows;
   })
 
-  pub goes_obeyed : (answer : Result Bool Stop) → Obeys (plan_of command tree from []) inner out answer → Goes words inputs out answer
+  pub goes_obeyed : (answer : Result Bool Stop) → Obeys (plan_of command tree from under) inner out answer → Goes words inputs out answer
   goes_obeyed answer obeys = record {
     usage = λ fault is. let late : false ≡ true = rw is at obeys.late in absurd cc;
     usage_always = λ fault is. absurd (cc (told, is));

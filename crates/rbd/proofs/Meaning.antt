@@ -6,7 +6,12 @@ use Rattle.std.proofs.lemmas.List.{length-map}
 use Rattle.rb_num.specs.Interval.{Interval}
 use Rattle.rb_io.specs.Cut.{Line}
 use Rattle.rb_tree.specs.Robot.{Tree, AreBodies}
+use Rattle.rb_tree.specs.Shape.{shape_of}
 use Rattle.rb_tree.specs.State.{Row}
+use Rattle.rb_flat.specs.Contact.{RowsFit}
+use Rattle.rb_constraint.specs.declared.constraints.Constraint.{Constraint}
+use Rattle.rb_constraint.specs.Constraints.{constraints_of, AreConstraints}
+use Rattle.rb_constraint.specs.Laws.{RowsFitRobot}
 use Rattle.rb_work.specs.declared.names.RowFault.{RowFault}
 use Rattle.rb_model.specs.Model.{model_text}
 use Rattle.rb_rows.specs.Columns.{state_columns}
@@ -32,22 +37,23 @@ use Rattle.rbd.specs.Course.{Course, IsCourse, tells, ending, slots_of, lines_of
 use Rattle.rbd.specs.Ends.{status_of, status_of_stop}
 use Rattle.rbd.specs.Headline.{IsAnswered, IsRefusal, Means, AreAnswered, IsPut, IsWritten, IsProved, Headline}
 use Rattle.rbd.specs.Inputs.{Rows, rows_of, inputs_of, long_line, is_long, is_short}
-use Rattle.rbd.specs.Plan.{Plan, IsPlan, Leads, job_of}
+use Rattle.rbd.specs.Plan.{Plan, IsPlan, IsConstraintsIn, constraints_held, Leads, job_of}
 use Rattle.rbd.specs.Run.{Source, Stream, Follows, EndsEarly, HasCourse, Goes}
+use Rattle.rbd.proofs.Refusals.{none_fit, none_kept}
 
 -- ---- one line
 -- what is known of each task
 abbrev EachMeans : Type 0
-EachMeans = (asked : Task) (tree : Tree) (row : Row) → Suits asked tree → AreBodies tree.bodies → AnswerMeans asked tree row
+EachMeans = (asked : Task) (tree : Tree) (cons : List Constraint) (row : Row) → Suits asked tree cons → AreBodies tree.bodies → AreConstraints cons → AnswerMeans asked tree cons row
 
 module _ (means : EachMeans) where
-  line_means : (job : Job) → IsJob job → AreBodies job.robot.bodies → (number : ℕ) (told : Told) (line : List ℕ) → line ≡ line_of job.echo (slot_of job number told) → Means job number told line
-  line_means job built kept number (Err fault) line is = is
-  line_means job built kept number (Ok row) line is = by_answer (answer_for job.task job.robot row) refl
+  line_means : (job : Job) → IsJob job → AreBodies job.robot.bodies → AreConstraints job.cons → (number : ℕ) (told : Told) (line : List ℕ) → line ≡ line_of job.echo (slot_of job number told) → Means job number told line
+  line_means job built kept under number (Err fault) line is = is
+  line_means job built kept under number (Ok row) line is = by_answer (answer_for job.task job.robot job.cons row) refl
     where
-      by_answer : (answer : Result (List Interval) RowFault) → answer_for job.task job.robot row ≡ answer → IsAnswered job number row line ⊎ IsRefusal job number row line
-      by_answer (Ok values) answers = inl (record { values = values; says = rw answers at is; exact = answers; means = (means job.task job.robot row built kept).values values answers })
-      by_answer (Err fault) answers = inr (record { fault = fault; says = rw answers at is; exact = answers; means = ((means job.task job.robot row built kept).refused fault).0 answers })
+      by_answer : (answer : Result (List Interval) RowFault) → answer_for job.task job.robot job.cons row ≡ answer → IsAnswered job number row line ⊎ IsRefusal job number row line
+      by_answer (Ok values) answers = inl (record { values = values; says = rw answers at is; exact = answers; means = (means job.task job.robot job.cons row built kept under).values values answers })
+      by_answer (Err fault) answers = inr (record { fault = fault; says = rw answers at is; exact = answers; means = ((means job.task job.robot job.cons row built kept under).refused fault).0 answers })
 
 -- the line at a place is that of what the row there told
 line_at : (job : Job) (number : ℕ) (told : List Told) (k : ℕ) (here : Told) (line : List ℕ) → slice_get told k ≡ Some here → slice_get (lines_of job (slots_from job number told)) k ≡ Some line
@@ -100,12 +106,27 @@ ending_is (Some fault) answers refused is = absurd cc
 plan_built : (words : List (List ℕ)) (held : List ℕ → List ℕ) (plan : Plan) → IsPlan words held plan → IsBuilt plan.order
 plan_built words held plan planned = subst IsBuilt (ap (λ (p : Plan). p.order) (sym planned.asked)) (commands_are_built words planned.command planned.told)
 
-module _ (means : EachMeans)
+-- those of a plan are between bodies of its robot
+plan_fits : RowsFitRobot → (words : List (List ℕ)) (held : List ℕ → List ℕ) (plan : Plan) → IsPlan words held plan → RowsFit (shape_of plan.tree) (constraints_of plan.constraints)
+plan_fits fits words held plan planned = by_file (constraints_held planned.command held) planned.constraints
+  where
+    by_file : (file : Option (List ℕ)) → IsConstraintsIn plan.tree file plan.constraints → RowsFit (shape_of plan.tree) (constraints_of plan.constraints)
+    by_file None none = subst (λ (cons : List Constraint). RowsFit (shape_of plan.tree) (constraints_of cons)) (sym none) (none_fit plan.tree)
+    by_file (Some bytes) file = fits plan.tree bytes plan.constraints file.is
+
+plan_kept : (words : List (List ℕ)) (held : List ℕ → List ℕ) (plan : Plan) → IsPlan words held plan → AreConstraints plan.constraints
+plan_kept words held plan planned = by_file (constraints_held planned.command held) planned.constraints
+  where
+    by_file : (file : Option (List ℕ)) → IsConstraintsIn plan.tree file plan.constraints → AreConstraints plan.constraints
+    by_file None none = subst AreConstraints (sym none) none_kept
+    by_file (Some bytes) file = file.kept
+
+module _ (means : EachMeans) (fits : RowsFitRobot)
     (words : List (List ℕ)) (inputs : Source) (out : Stream) (ended : Status) (refused : Bool) (is : ended ≡ status_of (Ok refused)) (told : IsTrue out.tells) where
-  rows_proved : (job : Job) (asked : Plan) → IsJob job → AreBodies job.robot.bodies → asked.tree ≡ job.robot → (read : Result Rows RowsFault) → rows_of asked.tree (inputs.holds asked.rows) ≡ read → Follows (course_of_rows job asked.start read) out (Ok refused)
+  rows_proved : (job : Job) (asked : Plan) → IsJob job → AreBodies job.robot.bodies → AreConstraints job.cons → asked.tree ≡ job.robot → (read : Result Rows RowsFault) → rows_of asked.tree (inputs.holds asked.rows) ≡ read → Follows (course_of_rows job asked.start read) out (Ok refused)
       → AreAnswered asked job inputs out ended
-  rows_proved job asked built kept same (Err fault) read follows = let e : Ok refused ≡ Err (AtRows fault) = follows.answers refl in absurd cc
-  rows_proved job asked built kept same (Ok found) read follows =
+  rows_proved job asked built kept under same (Err fault) read follows = let e : Ok refused ≡ Err (AtRows fault) = follows.answers refl in absurd cc
+  rows_proved job asked built kept under same (Ok found) read follows =
       let told_all = inputs_of asked.start found in
       let end = ending_is (long_line found) (slots_of job asked.start found) refused (follows.answers refl) in
       record {
@@ -117,7 +138,7 @@ module _ (means : EachMeans)
         count = lines_counted job 1 told_all ∙ inputs_counted asked.start found end.none;
         each = λ k here line there put.
             let number : 1 + k ≡ k + 1 = omega arith in
-            line_means means job built kept (k + 1) here line (line_at job 1 told_all k here line there put ∙ ap (λ (m : ℕ). line_of job.echo (slot_of job m here)) number);
+            line_means means job built kept under (k + 1) here line (line_at job 1 told_all k here line there put ∙ ap (λ (m : ℕ). line_of job.echo (slot_of job m here)) number);
         status = is ∙ ap (λ (b : Bool). status_of (Ok b)) end.is;
       }
 
@@ -128,14 +149,19 @@ module _ (means : EachMeans)
       let e : refused ≡ false = cc in
       record { put = follows.whole refl told; status = is ∙ ap (λ (b : Bool). status_of (Ok b)) e }
 
-  order_proved : (asked : Plan) → AreBodies asked.tree.bodies → (what : Order) → IsBuilt what → Leads what asked.tree → Follows (course_by what asked inputs.holds) out (Ok refused) → IsWritten what asked inputs out ended
-  order_proved asked kept (order.Rows task) built leads follows = rows_proved (job_of asked task) asked (record { built = built; leads = λ is. leads (ap order.Rows is) }) kept refl (rows_of asked.tree (inputs.holds asked.rows)) refl follows
-  order_proved asked kept order.Model built leads follows = text_proved (model_text asked.tree asked.start.q) follows
-  order_proved asked kept order.Columns built leads follows = text_proved (names_text (state_columns asked.tree)) follows
+  order_proved : (asked : Plan) → AreBodies asked.tree.bodies → RowsFit (shape_of asked.tree) (constraints_of asked.constraints) → AreConstraints asked.constraints → (what : Order) → IsBuilt what → Leads what asked.tree → Follows (course_by what asked inputs.holds) out (Ok refused) → IsWritten what asked inputs out ended
+  order_proved asked kept fit under (order.Rows task) built leads follows =
+      rows_proved (job_of asked task) asked (record { built = built; leads = λ is. leads (ap order.Rows is); fit = fit }) kept under refl (rows_of asked.tree (inputs.holds asked.rows)) refl follows
+  order_proved asked kept fit under order.Model built leads follows = text_proved (model_text asked.tree asked.start.q) follows
+  order_proved asked kept fit under order.Columns built leads follows = text_proved (names_text (state_columns asked.tree)) follows
 
   course_proved : (course : Course) → IsCourse words inputs.holds course → Follows course out (Ok refused) → IsProved words inputs out ended
   course_proved course (IsCourse.stops stop planless) follows = let e : Ok refused ≡ Err stop = follows.answers refl in absurd cc
-  course_proved course (IsCourse.goes plan planned) follows = record { plan = plan; is_plan = planned; written = order_proved plan planned.robot.kept plan.order (plan_built words inputs.holds plan planned) planned.leads follows }
+  course_proved course (IsCourse.goes plan planned) follows = record {
+    plan = plan;
+    is_plan = planned;
+    written = order_proved plan planned.robot.kept (plan_fits fits words inputs.holds plan planned) (plan_kept words inputs.holds plan planned) plan.order (plan_built words inputs.holds plan planned) planned.leads follows;
+  }
 
   never_early : ((Ok refused ≡ Err AtInput) ⊎ (Ok refused ≡ Err Memory)) → IsProved words inputs out ended
   never_early (inl is) = absurd cc
@@ -161,6 +187,6 @@ stop_not_done Output ended is (inr done) = let e : status.OutputFault ≡ status
 stop_not_done Memory ended is (inl done) = let e : status.Memory ≡ status.Done = sym is ∙ done in absurd cc
 stop_not_done Memory ended is (inr done) = let e : status.Memory ≡ status.Refused = sym is ∙ done in absurd cc
 
-pub headline : EachMeans → (words : List (List ℕ)) (inputs : Source) (out : Stream) (ended : Status) (answer : Result Bool Stop) → Goes words inputs out answer → ended ≡ status_of answer → Headline words inputs out ended
-headline means words inputs out ended (Ok refused) goes is told = steps_proved means words inputs out ended refused is told.out_tells (goes.course told.inputs_tell)
-headline means words inputs out ended (Err stop) goes is told = absurd (stop_not_done stop ended is told.done)
+pub headline : EachMeans → RowsFitRobot → (words : List (List ℕ)) (inputs : Source) (out : Stream) (ended : Status) (answer : Result Bool Stop) → Goes words inputs out answer → ended ≡ status_of answer → Headline words inputs out ended
+headline means fits words inputs out ended (Ok refused) goes is told = steps_proved means fits words inputs out ended refused is told.out_tells (goes.course told.inputs_tell)
+headline means fits words inputs out ended (Err stop) goes is told = absurd (stop_not_done stop ended is told.done)

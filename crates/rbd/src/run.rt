@@ -27,7 +27,7 @@ use crate::status::Status;
 use crate::stop::{
     RowsStop, Stop, UsageFault, of_constraints, of_reading, of_robot, of_rows, of_start, of_words,
 };
-use rb_constraint::Constraints;
+use rb_constraint::{Constraints, file_law};
 use rb_io::{Inputs, Sink, put_all};
 use rb_model::model_text;
 use rb_rows::column_line;
@@ -215,6 +215,7 @@ pub fn run<I: Inputs, O: Sink, E: Sink>(
         }
     };
     answer_law();
+    file_law();
     let mut told = String::new(alloc);
     let answer = steps(alloc, words, &mut told, inputs, out);
     put_text(&answer, &mut line);

@@ -7,4 +7,4 @@ returns-in-Err-clause-refused g c = λ tells. constraints_unread c.args.robot.no
 
 pub returns-in-Ok-read_constraints-clause-constraints : goal.returns-in-Ok-read_constraints-clause-constraints
 returns-in-Ok-read_constraints-clause-constraints g c = λ tells.
-    constraints_read c.args.robot.now c.as_slice.result.now _ _ (c.as_slice.ensures ∙ c.in-Ok.ensures.whole tells) (rw c.as_slice.ensures c.in-Ok.ensures.within) c.in-Ok-read_constraints.ensures.ok
+    constraints_read c.args.robot.now c.as_slice.result.now _ _ (c.as_slice.ensures ∙ c.in-Ok.ensures.whole tells) (rw c.as_slice.ensures c.in-Ok.ensures.within) c.in-Ok-read_constraints.ensures.ok c.as_slice-kept.ensures.kept

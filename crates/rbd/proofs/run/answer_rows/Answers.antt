@@ -1,4 +1,4 @@
-use Rattle.std.proofs.Common.{◌≡◌, ◌∙◌, [], Err, Ok, ap, refl}
+use Rattle.std.proofs.Common.{◌≡◌, ◌∙◌, Err, Ok, ap, refl}
 use Rattle.rbd.specs.declared.stop.ReadStop.TheVariants as read
 use Rattle.rbd.specs.Plan.{plan}
 use Rattle.rbd.specs.Run.{source}
@@ -14,13 +14,13 @@ returns-in-Err-clause-obeys g c =
 
 pub returns-in-Ok-answer_all-clause-obeys : goal.returns-in-Ok-answer_all-clause-obeys
 returns-in-Ok-answer_all-clause-obeys g c =
-    obeys_along (plan (order.Rows c.args.job.now.task) c.args.job.now.robot c.args.start.now [] c.args.name.now c.args.job.now.echo) (source g.I.Inputs.tells g.I.Inputs.holds g.I.Inputs.given g.I.Inputs.faults c.args.inputs.now c.read_rows.new.inputs) _ (c.in-Ok.ensures.kept (λ e. absurd cc)) (Ok c.in-Ok-answer_all.refused)
+    obeys_along (plan (order.Rows c.args.job.now.task) c.args.job.now.robot c.args.start.now c.args.job.now.cons c.args.name.now c.args.job.now.echo) (source g.I.Inputs.tells g.I.Inputs.holds g.I.Inputs.given g.I.Inputs.faults c.args.inputs.now c.read_rows.new.inputs) _ (c.in-Ok.ensures.kept (λ e. absurd cc)) (Ok c.in-Ok-answer_all.refused)
     (rows_along c.args.job.now c.args.start.now c.args.name.now c.as_slice.result.now (source g.I.Inputs.tells g.I.Inputs.holds g.I.Inputs.given g.I.Inputs.faults c.args.inputs.now c.read_rows.new.inputs) _ _ (λ tells. c.as_slice.ensures ∙ c.in-Ok.ensures.bytes tells) (rw c.as_slice.ensures c.in-Ok.ensures.within) c.in-Ok-answer_all.ensures.follows)
     c.in-Ok-answer_all.ensures.long c.in-Ok-answer_all.ensures.rose c.in-Ok-answer_all.ensures.kept
 
 pub returns-clause-obeys : goal.returns-clause-obeys
 returns-clause-obeys g c =
     rw c.of_rows.ensures
-    (obeys_along (plan (order.Rows c.args.job.now.task) c.args.job.now.robot c.args.start.now [] c.args.name.now c.args.job.now.echo) (source g.I.Inputs.tells g.I.Inputs.holds g.I.Inputs.given g.I.Inputs.faults c.args.inputs.now c.read_rows.new.inputs) _ (c.in-Ok.ensures.kept (λ e. absurd cc)) (Err c.in-Err-answer_all.stop)
+    (obeys_along (plan (order.Rows c.args.job.now.task) c.args.job.now.robot c.args.start.now c.args.job.now.cons c.args.name.now c.args.job.now.echo) (source g.I.Inputs.tells g.I.Inputs.holds g.I.Inputs.given g.I.Inputs.faults c.args.inputs.now c.read_rows.new.inputs) _ (c.in-Ok.ensures.kept (λ e. absurd cc)) (Err c.in-Err-answer_all.stop)
     (rows_along c.args.job.now c.args.start.now c.args.name.now c.as_slice.result.now (source g.I.Inputs.tells g.I.Inputs.holds g.I.Inputs.given g.I.Inputs.faults c.args.inputs.now c.read_rows.new.inputs) _ _ (λ tells. c.as_slice.ensures ∙ c.in-Ok.ensures.bytes tells) (rw c.as_slice.ensures c.in-Ok.ensures.within) c.in-Err-answer_all.ensures.follows)
     c.in-Err-answer_all.ensures.long c.in-Err-answer_all.ensures.rose c.in-Err-answer_all.ensures.kept)

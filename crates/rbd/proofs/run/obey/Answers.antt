@@ -7,4 +7,5 @@ pub answer_rows-requires-clause-task : goal.answer_rows-requires-clause-task
 answer_rows-requires-clause-task g c = record {
   built = subst IsBuilt c.in-Rows.is c.requires.built;
   leads = λ e. c.requires.leads (c.in-Rows.is ∙ ap order.Rows e);
+  fit = c.requires.fit;
 }

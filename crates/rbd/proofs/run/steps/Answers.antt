@@ -40,7 +40,7 @@ returns-in-Err-read_constraints_of-clause-goes g c =
 pub returns-clause-goes : goal.returns-clause-goes
 returns-clause-goes g c =
     let count = c.in-Ok-read_constraints_of.ensures.kept (λ e. absurd cc) ∙ c.in-Ok-read_robot.ensures.kept (λ e. absurd cc) in
-    goes_obeyed _ (asked_by c.in-Ok.command) c.in-Ok-read_robot.robot c.in-Ok-start_of.start c.in-Ok-read_constraints_of.constraints _ _ _ c.in-Ok.ensures.ok c.in-Ok-read_robot.ensures.robot c.in-Ok-start_of.ensures.ok
+    goes_obeyed _ (asked_by c.in-Ok.command) c.in-Ok-read_robot.robot c.in-Ok-start_of.start c.in-Ok-read_constraints_of.cons _ _ _ c.in-Ok.ensures.ok c.in-Ok-read_robot.ensures.robot c.in-Ok-start_of.ensures.ok
     (c.is_unfit.ensures.leads c.if-is_unfit.false)
     (λ tells. rw c.read_robot.ensures.holds at (c.in-Ok-read_constraints_of.ensures.constraints (rw c.read_robot.ensures.tells tells)))
     (c.read_constraints_of.ensures.tells ∙ c.read_robot.ensures.tells) (c.read_constraints_of.ensures.holds ∙ c.read_robot.ensures.holds) refl count refl _ c.obey.ensures.obeys
