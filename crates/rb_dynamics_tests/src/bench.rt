@@ -57,7 +57,7 @@ fn put(robot: &Robot, state: &mut State, given: Given)
     }
 }
 
-fn put_all(robot: &Robot, state: &mut State, row: &[Given])
+pub(crate) fn put_all(robot: &Robot, state: &mut State, row: &[Given])
     requires { Fits robot.now state.old }
     ensures { Fits robot.now state.new }
 {

@@ -6,6 +6,8 @@ mod articulated;
 #[cfg(test)]
 mod bench;
 #[cfg(test)]
+mod constrained;
+#[cfg(test)]
 mod factors;
 #[cfg(test)]
 mod forward;
