@@ -74,19 +74,19 @@ neutral_fits tree =
 
 -- ---- the line of a slot whose answer is that of what its row told
 -- with the same number, and the same state
-line_refused : (echo : Bool) (job : Job) (x : Slot) (number : ℕ) (row : Row) (fault : RowFault) → x.row ≡ number → x.state ≡ row → x.answer ≡ answer.Refused fault → length x.values ≡ value_count job.robot job.task
+line_refused : (echo : Bool) (job : Job) (x : Slot) (number : ℕ) (row : Row) (fault : RowFault) → x.row ≡ number → x.state ≡ row → x.answer ≡ answer.Refused fault → length x.values ≡ value_count job.robot job.cons job.task
     → line_of echo x ≡ line_of echo (refused_slot job number row fault)
 unfolding line_of
 line_refused echo job x number row fault at state says long =
-    let blank = blank_same x.values (replicate (value_count job.robot job.task) zero_interval) (long ∙ sym (length-replicate (value_count job.robot job.task) zero_interval)) in
+    let blank = blank_same x.values (replicate (value_count job.robot job.cons job.task) zero_interval) (long ∙ sym (length-replicate (value_count job.robot job.cons job.task) zero_interval)) in
     let echoed = echo_alike echo x (refused_slot job number row fault) state (ap is_read says) in
     rw (echoed, says, at, blank) refl
 
-line_bad : (echo : Bool) (job : Job) (x : Slot) (number : ℕ) (fault : FieldFault) → x.row ≡ number → Fits job.robot x.state → x.answer ≡ answer.Bad fault → length x.values ≡ value_count job.robot job.task
+line_bad : (echo : Bool) (job : Job) (x : Slot) (number : ℕ) (fault : FieldFault) → x.row ≡ number → Fits job.robot x.state → x.answer ≡ answer.Bad fault → length x.values ≡ value_count job.robot job.cons job.task
     → line_of echo x ≡ line_of echo (bad_slot job number fault)
 unfolding line_of
 line_bad echo job x number fault at fits says long =
-    let blank = blank_same x.values (replicate (value_count job.robot job.task) zero_interval) (long ∙ sym (length-replicate (value_count job.robot job.task) zero_interval)) in
+    let blank = blank_same x.values (replicate (value_count job.robot job.cons job.task) zero_interval) (long ∙ sym (length-replicate (value_count job.robot job.cons job.task) zero_interval)) in
     let state = echo_same echo job.robot x (bad_slot job number fault) fits (neutral_fits job.robot) fault says refl in
     rw (state, says, at, blank) refl
 
@@ -95,7 +95,7 @@ pub record SaysAnswer (job : Job) (x : Slot) (number : ℕ) (told : Told) : Type
   pub line : line_of job.echo x ≡ line_of job.echo (slot_of job number told)
   pub refused : is_refused x ≡ is_refused (slot_of job number told)
 
-row_says : (job : Job) (old new : Slot) (number : ℕ) (row : Row) (result : Result (List Interval) RowFault) → answer_for job.task job.robot row ≡ result → length old.values ≡ value_count job.robot job.task
+row_says : (job : Job) (old new : Slot) (number : ℕ) (row : Row) (result : Result (List Interval) RowFault) → answer_for job.task job.robot job.cons row ≡ result → length old.values ≡ value_count job.robot job.cons job.task
     → old.row ≡ number → old.input ≡ Input.Row → old.state ≡ row → HasAnswer result old new → SaysAnswer job new number (Ok row)
 row_says job old new number row (Ok values) is long at input state answers =
     let same : new ≡ done_slot number row values = rw (at, input, state) at answers in
@@ -114,8 +114,8 @@ row_says job old new number row (Err fault) is long at input state answers =
 
 pub answer_says : (job : Job) (old new : Slot) (number : ℕ) (told : Told) → IsSlotOf job old → Holds old number told → IsAnsweredBy job old.input old new → SaysAnswer job new number told
 answer_says job old new number (Ok row) fits holds answers =
-    row_says job old new number row (answer_for job.task job.robot row) refl fits.values holds.row holds.input.0 holds.input.1
-    (subst (λ (s : Row). HasAnswer (answer_for job.task job.robot s) old new) holds.input.1 (subst (λ (i : SlotInput). IsAnsweredBy job i old new) holds.input.0 answers))
+    row_says job old new number row (answer_for job.task job.robot job.cons row) refl fits.values holds.row holds.input.0 holds.input.1
+    (subst (λ (s : Row). HasAnswer (answer_for job.task job.robot job.cons s) old new) holds.input.1 (subst (λ (i : SlotInput). IsAnsweredBy job i old new) holds.input.0 answers))
 answer_says job old new number (Err fault) fits holds answers =
     let is : new ≡ record old { answer = answer.Bad fault } = subst (λ (i : SlotInput). IsAnsweredBy job i old new) holds.input answers in
     let says : new.answer ≡ answer.Bad fault = ap (λ (x : Slot). x.answer) is in

@@ -1,5 +1,5 @@
 -- What the values of a task enclose.
-use Rattle.std.proofs.Common.{◌≡◌, ◌<◌, ◌≤◌, ◌+◌, ℕ, length, map, Some, sym, ap, ◌∙◌, arith, subst}
+use Rattle.std.proofs.Common.{◌≡◌, ◌<◌, ◌≤◌, ◌+◌, ℕ, zero, suc, List, [], ◌∷◌, ◌++◌, length, map, Some, sym, ap, ◌∙◌, arith, subst, length-append}
 use Rattle.std.specs.Prelude.{slice_get}
 use Rattle.std.proofs.lemmas.Option.{get_or_from_slice_get, slice_get_within}
 use Rattle.std.proofs.lemmas.List.{length-map}
@@ -14,7 +14,7 @@ use Rattle.rb_flat.proofs.OneSolution.{inverse_has_one_solution}
 use Rattle.rb_sweep.specs.Sweep.{upward}
 use Rattle.rb_sweep.proofs.Climbing.{length-upward, upward_at}
 use Rattle.rb_urdf.proofs.Zips.{slice_get-of_map}
-use Rattle.rb_work.specs.View.{View, T_at, x_at, mass_at}
+use Rattle.rb_work.specs.View.{View, T_at, x_at, lam_at, mass_at}
 use Rattle.rb_tree.specs.Columns.{column_count}
 use Rattle.rb_tree.specs.Robot.{Tree, HasColumn, AreBodies}
 use Rattle.rb_tree.specs.Shape.{shape_of}
@@ -22,6 +22,9 @@ use Rattle.rb_tree.specs.State.{Row}
 use Rattle.rb_tree.proofs.ColumnsFit.{columns_fit, parents_first}
 use Rattle.rb_rnea.specs.Dynamics.{EnclosesDynamics, torques_in}
 use Rattle.rb_mass.specs.Encloses.{MassLies, EnclosesRowMass}
+use Rattle.rb_constraint.specs.declared.constraints.Constraint.{Constraint}
+use Rattle.rb_constraint.specs.Constraints.{constraints_of}
+use Rattle.rb_contact.specs.Contact.{EnclosesContact, forces_in}
 use Rattle.rb_contact.specs.Forward.{EnclosesForward, accelerations_in}
 use Rattle.rb_aba.specs.Forward as Articulated
 use Rattle.rb_rows.specs.Head.{pairs_of}
@@ -51,29 +54,67 @@ columns_lie at n x lie k value is =
     subst (λ v. LiesIn (x (k + 1)) v) found.1 (lie (k + 1) (omega arith) (omega (arith, found.0)))
 
 -- torques of values that are what their rules give enclose
-pub torques_enclose : (tree : Tree) (row : Row) (w : View) → EnclosesDynamics tree row w → Encloses task.Rnea tree row (torques_in tree w)
-torques_enclose tree row w encloses = record {
+pub torques_enclose : (tree : Tree) (cons : List Constraint) (row : Row) (w : View) → EnclosesDynamics tree row w → Encloses task.Rnea tree cons row (torques_in tree w)
+torques_enclose tree cons row w encloses = record {
   count = columns_long (T_at w) (column_count tree.bodies);
   each = λ choice chosen.
       let lie = encloses.at choice chosen in
       record { one = lie.one; within = columns_lie (T_at w) (column_count tree.bodies) lie.one.solution.torque (λ c from to. lie.lies.torque c (record { from = from; to = to })) };
 }
 
-pub accelerations_enclose : (tree : Tree) (row : Row) (w : View) → EnclosesForward tree row w → Encloses task.Fd tree row (accelerations_in tree w)
-accelerations_enclose tree row w encloses = record {
+pub accelerations_enclose : (tree : Tree) (cons : List Constraint) (row : Row) (w : View) → EnclosesForward tree row w → Encloses task.Fd tree cons row (accelerations_in tree w)
+accelerations_enclose tree cons row w encloses = record {
   count = columns_long (x_at w) (column_count tree.bodies);
   each = λ choice chosen.
       let lie = encloses.at choice chosen in
       record { one = lie.one; within = columns_lie (x_at w) (column_count tree.bodies) lie.one.solution.joint_acceleration (λ c from to. lie.lies c (record { from = from; to = to })) };
 }
 
-pub articulated_enclose : (tree : Tree) (row : Row) (w : View) → Articulated.EnclosesForward tree row w → Encloses task.Aba tree row (Articulated.accelerations_in tree w)
-articulated_enclose tree row w encloses = record {
+pub articulated_enclose : (tree : Tree) (cons : List Constraint) (row : Row) (w : View) → Articulated.EnclosesForward tree row w → Encloses task.Aba tree cons row (Articulated.accelerations_in tree w)
+articulated_enclose tree cons row w encloses = record {
   count = columns_long (x_at w) (column_count tree.bodies);
   each = λ choice chosen.
       let lie = encloses.at choice chosen in
       record { one = lie.one; within = columns_lie (x_at w) (column_count tree.bodies) lie.one.solution.joint_acceleration (λ c from to. lie.lies.joint_acceleration c (record { from = from; to = to })) };
 }
+
+-- ---- under constraints
+-- a value at a place in front is one of the first list, and one behind them is one of the second
+in_front : (xs ys : List Interval) (k : ℕ) (value : Interval) → k < length xs → slice_get (xs ++ ys) k ≡ Some value → slice_get xs k ≡ Some value
+in_front [] ys k value within is = absurd (omega (arith, within))
+in_front (x ∷ xs) ys zero value within is = is
+in_front (x ∷ xs) ys (suc k) value within is = in_front xs ys k value (omega (arith, within)) is
+
+at_back : (xs ys : List Interval) (n k : ℕ) (value : Interval) → n ≡ length xs → slice_get (xs ++ ys) (n + k) ≡ Some value → slice_get ys k ≡ Some value
+at_back [] ys zero k value long is = let e : 0 + k ≡ k = omega arith in subst (λ (m : ℕ). slice_get ys m ≡ Some value) e is
+at_back [] ys (suc n) k value long is = absurd (omega (arith, long))
+at_back (x ∷ xs) ys zero k value long is = absurd (omega (arith, long))
+at_back (x ∷ xs) ys (suc n) k value long is =
+    let e : suc n + k ≡ suc (n + k) = omega arith in
+    at_back xs ys n k value (omega (arith, long)) (subst (λ (m : ℕ). slice_get (x ∷ (xs ++ ys)) m ≡ Some value) e is)
+
+pub contact_encloses : (tree : Tree) (cons : List Constraint) (row : Row) (w : View) → EnclosesContact tree row (constraints_of cons) w
+    → Encloses task.Contact tree cons row (accelerations_in tree w ++ forces_in (constraints_of cons) w)
+contact_encloses tree cons row w encloses =
+    let n = column_count tree.bodies in
+    let k = constraints_of cons in
+    let first = map (x_at w) (upward 1 (n + 1)) in
+    let second = map (lam_at w) (upward 1 (k.rows + 1)) in
+    let long : length first ≡ n = columns_long (x_at w) n in
+    record {
+      count = omega (arith, length-append first second, long, columns_long (lam_at w) k.rows);
+      each = λ choice chosen numbers given.
+          let lie = encloses.at choice numbers chosen given in
+          record {
+            one = lie.one;
+            accelerations = λ place value within there.
+                columns_lie (x_at w) n lie.one.solution.tree.joint_acceleration (λ c from to. lie.accelerations c (record { from = from; to = to })) place value
+                (in_front first second place value (omega (arith, long, within)) there);
+            forces = λ place value there.
+                columns_lie (lam_at w) k.rows lie.one.solution.row_force (λ r from to. lie.forces r (record { from = from; to = omega (arith, to, given.rows) })) place value
+                (at_back first second n place value (sym long) there);
+          };
+    }
 
 -- ---- the mass table
 module _ (tree : Tree) (kept : AreBodies tree.bodies) (w : View) where
@@ -96,8 +137,8 @@ module _ (tree : Tree) (kept : AreBodies tree.bodies) (w : View) where
       same_some : {X : Type 0} {x y : X} → Some x ≡ Some y → x ≡ y
       same_some is = cc
 
-  pub masses_enclose : (row : Row) → EnclosesRowMass tree row w → Encloses task.Crba tree row (masses_in tree w)
-  masses_enclose row encloses = record {
+  pub masses_enclose : (cons : List Constraint) (row : Row) → EnclosesRowMass tree row w → Encloses task.Crba tree cons row (masses_in tree w)
+  masses_enclose cons row encloses = record {
     count = length-map (pairs_of (column_count tree.bodies)) (mass_of_pair w) ∙ pairs_counted (column_count tree.bodies);
     each = λ choice chosen. column_lies choice (encloses.at choice chosen);
   }

@@ -1,5 +1,5 @@
 -- What can be asked of the rows of a robot.
-use Rattle.std.specs.Prelude.{◌≡◌, ◌≤◌, false, List}
+use Rattle.std.specs.Prelude.{◌≡◌, false, List}
 use Rattle.rb_flat.specs.Contact.{RowsFit}
 use Rattle.rb_work.specs.View.{View}
 use Rattle.rb_tree.specs.Columns.{has_mimic}
@@ -24,7 +24,7 @@ pub record Suits (asked : Task) (tree : Tree) (cons : List Constraint) : Type 0 
 abbrev pub IsJob : Job → Type 0
 IsJob job = Suits job.task job.robot job.cons
 
--- a work is one for the robot, and has room for the rows of the constraints
+-- a work is one for the robot and for the rows of the constraints
 pub record IsWorkOf (job : Job) (w : View) : Type 0 where
   pub robot : IsFor job.robot w
-  pub rows : (constraints_of job.cons).rows ≤ w.rows
+  pub rows : w.rows ≡ (constraints_of job.cons).rows

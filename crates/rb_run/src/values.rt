@@ -95,15 +95,15 @@ fn put_masses(robot: &Robot, work: &Work, masses: &mut [Iv])
     }
 }
 
-/// Puts the forces of the rows behind so many others.
-fn put_forces(cons: &Constraints, work: &Work, behind: usize, forces: &mut [Iv])
+/// Puts the forces of the rows of a work.
+fn put_forces(cons: &Constraints, work: &Work, forces: &mut [Iv])
     requires work { (constraints_of cons.now).rows ≤ work.now.rows }
-    requires length { length forces.old ≡ behind + (constraints_of cons.now).rows }
-    ensures forces { forces.new ≡ take behind forces.old ++ forces_in (constraints_of cons.now) work.now }
+    requires length { length forces.old ≡ (constraints_of cons.now).rows }
+    ensures forces { forces.new ≡ forces_in (constraints_of cons.now) work.now }
     ensures length { length forces.new ≡ length forces.old }
 {
     for r in 1..cons.rows() + 1 {
-        forces[behind + r as usize - 1] = work.row_force(r);
+        forces[r as usize - 1] = work.row_force(r);
     }
 }
 
@@ -115,9 +115,9 @@ fn put_contact(robot: &Robot, cons: &Constraints, work: &Work, values: &mut [Iv]
     ensures values { values.new ≡ accelerations_in robot.now work.now ++ forces_in (constraints_of cons.now) work.now }
     ensures length { length values.new ≡ length values.old }
 {
-    let columns = robot.nv() as usize;
-    put_accelerations(robot, work, &mut values[..columns]);
-    put_forces(cons, work, columns, values);
+    let (accelerations, forces) = values.split_at_mut(robot.nv() as usize);
+    put_accelerations(robot, work, accelerations);
+    put_forces(cons, work, forces);
 }
 
 /// Puts what a work holds for the values of a row.

@@ -1,10 +1,11 @@
+use Rattle.rb_constraint.specs.Constraints.{constraints_of}
 use Rattle.rb_run.proofs.Means.{answer_means}
 use Rattle.rb_run.proofs.laws.answer_law.Goals as goal
 
 pub returns : goal.returns
 returns c = record {
-  means = λ asked tree row suits kept.
-      answer_means tree row kept
+  means = λ asked tree cons row suits kept are.
+      answer_means tree cons row kept
       (record {
         torques = c.answer_law.ensures.means tree row kept;
         torques_lie = c.answer_law.ensures.encloses tree row kept;
@@ -13,6 +14,8 @@ returns c = record {
         accelerations = c.answer_law-3.ensures.means tree row kept;
         accelerations_lie = c.answer_law-3.ensures.encloses tree row kept;
         articulated = λ lead. c.answer_law-4.ensures.means tree row kept lead;
+        contact = λ fit. c.contact_answer_law.ensures.means tree row (constraints_of cons) kept fit are.few;
+        contact_lie = λ fit. c.contact_answer_law.ensures.encloses tree row (constraints_of cons) kept fit;
         articulated_lie = λ lead. c.answer_law-4.ensures.encloses tree row kept lead;
       })
       asked suits;
