@@ -35,7 +35,7 @@ use Rattle.rbd.specs.declared.status.Status.TheVariants as status
 use Rattle.rbd.specs.Plan.{Plan, plan, plan_of, articulated, Leads, files_of, IsRobotOf, IsRefused, IsStart, IsConstraintsIn, HasNoConstraints, constraints_held, most_file}
 use Rattle.rbd.specs.Inputs.{most_rows, rows_of, rows_of_lines}
 use Rattle.rb_io.specs.Cut.{lines_of}
-use Rattle.rbd.specs.Course.{IsCourse, stopped, Course, course_of, course_of_rows}
+use Rattle.rbd.specs.Course.{IsCourse, stopped, course_of, course_of_rows}
 use Rattle.rbd.specs.Ends.{status_of}
 use Rattle.rbd.specs.Run.{Source, Stream, is_plain, Follows, EndsEarly, HasCourse, IsUsage, Obeys, Goes, IsOfCourse, IsComplete}
 use Rattle.rbd.specs.Stops.{IfFault, stop_of_read, stop_of_rows, stop_of_start, stop_of_words}

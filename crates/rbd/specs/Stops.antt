@@ -36,7 +36,6 @@ use Rattle.rbd.specs.declared.stop.StartStop.{StartStop}
 use Rattle.rbd.specs.declared.stop.StartStop.TheVariants as start
 use Rattle.rbd.specs.declared.stop.UsageFault.TheVariants.{State, Words}
 use Rattle.rbd.specs.declared.stop.RowsFault.{RowsFault}
-use Rattle.rbd.specs.declared.stop.RowsFault.TheVariants as RowsFault
 use Rattle.rbd.specs.declared.stop.Stop.{Stop}
 use Rattle.rbd.specs.declared.stop.Stop.TheVariants.{Usage, Rows, Input, Output, Memory}
 

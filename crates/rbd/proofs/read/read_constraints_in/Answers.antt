@@ -1,4 +1,4 @@
-use Rattle.std.proofs.Common.{◌≡◌, ◌∙◌, Err, ap}
+use Rattle.std.proofs.Common.{◌∙◌, Err, ap}
 use Rattle.rbd.proofs.Refusals.{constraints_unread, constraints_read}
 use Rattle.rbd.proofs.read.read_constraints_in.Goals as goal
 

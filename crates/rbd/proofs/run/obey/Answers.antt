@@ -1,4 +1,4 @@
-use Rattle.std.proofs.Common.{◌≡◌, ◌∙◌, sym, ap, subst}
+use Rattle.std.proofs.Common.{◌∙◌, ap, subst}
 use Rattle.rb_words.specs.Words.{IsBuilt}
 use Rattle.rb_words.specs.declared.order.Order.TheVariants as order
 use Rattle.rbd.proofs.run.obey.Goals as goal
