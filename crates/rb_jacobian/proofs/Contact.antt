@@ -29,6 +29,13 @@ alone b p x = with3 b p x λ ρ u v w. simp (u, v, w, quote) (finish ρ _ _ refl
 back : (t b p : ℚ) → (b +ℚ neg_ℚ p) +ℚ ((t +ℚ neg_ℚ b) +ℚ p) ≡ t
 back t b p = with3 t b p λ ρ u v w. simp (u, v, w, quote) (finish ρ _ _ refl)
 
+-- sums over the columns
+pub sums_same : (shape : Shape) (x y : ℕ → Frac) → ((c : ℕ) → HasColumn shape c → Same (x c) (y c)) → (a : ℕ → Frac) →
+    Same (sum_of fracs shape.columns (λ d. mul (a (suc d)) (x (suc d)))) (sum_of fracs shape.columns (λ d. mul (a (suc d)) (y (suc d))))
+sums_same shape x y h a =
+    sum_same same_fractions shape.columns (λ d. mul (a (suc d)) (x (suc d))) (λ d. mul (a (suc d)) (y (suc d)))
+    (λ d l. mul_same (a (suc d)) (a (suc d)) (x (suc d)) (y (suc d)) (same_refl (a (suc d))) (h (suc d) (record { from = omega arith; to = omega arith })))
+
 module _ (shape : Shape) (m : Mechanism Frac) (k : Constraints Frac) (turn : ℕ → Table Frac) (table J : ℕ → ℕ → Frac) (bias : Unknowns Frac)
     (parents : ParentsComeFirst shape) (mimics : MimicsFit shape) (fit : ColumnsFit shape) (fits : RowsFit shape k) (mass : IsMassTable shape m table)
     (is : IsJacobian shape m k turn J) (hb : InverseDynamics fracs shape (unaccelerated fracs m) Same (no_force fracs) bias) where
@@ -51,12 +58,6 @@ module _ (shape : Shape) (m : Mechanism Frac) (k : Constraints Frac) (turn : ℕ
   bias_moves : Moves fracs shape m Same (no_force fracs) bias
   bias_moves = other_accelerations shape m (no_force fracs) (λ c. fracs.nul) bias hb.moves
 
-  sums_same : (x y : ℕ → Frac) → ((c : ℕ) → HasColumn shape c → Same (x c) (y c)) → (a : ℕ → Frac) →
-      Same (sum_of fracs shape.columns (λ d. mul (a (suc d)) (x (suc d)))) (sum_of fracs shape.columns (λ d. mul (a (suc d)) (y (suc d))))
-  sums_same x y h a =
-      sum_same same_fractions shape.columns (λ d. mul (a (suc d)) (x (suc d))) (λ d. mul (a (suc d)) (y (suc d)))
-      (λ d l. mul_same (a (suc d)) (a (suc d)) (x (suc d)) (y (suc d)) (same_refl (a (suc d))) (h (suc d) (record { from = omega arith; to = omega arith })))
-
   -- ---- a motion under forces of the rows
   module _ (lam : ℕ → Frac) (s : Unknowns Frac) (hs : Moves fracs shape m Same (rows_on fracs k turn lam) s) where
     loaded : Unknowns Frac
@@ -66,7 +67,7 @@ module _ (shape : Shape) (m : Mechanism Frac) (k : Constraints Frac) (turn : ℕ
     unfolding loaded
     loaded_solves = (has_one_solution same_fractions shape (unaccelerated fracs m) (rows_on fracs k turn lam) parents fit).solves
 
-    torque_sums : (c : ℕ) → HasColumn shape c → cls (s.torque c) ≡ (cls (bias.torque c) +ℚ neg_ℚ (cls (across lam c))) +ℚ cls (product s.joint_acceleration c)
+    pub torque_sums : (c : ℕ) → HasColumn shape c → cls (s.torque c) ≡ (cls (bias.torque c) +ℚ neg_ℚ (cls (across lam c))) +ℚ cls (product s.joint_acceleration c)
     torque_sums c there =
         let b = loaded.torque c in
         let p = product s.joint_acceleration c in
@@ -129,7 +130,7 @@ module _ (shape : Shape) (m : Mechanism Frac) (k : Constraints Frac) (turn : ℕ
         exact (tree.torque c) (m.torque c)
         (torque_sums lam tree tree_moves c there
         ∙ ap (λ (t : ℚ). (cls (bias.torque c) +ℚ neg_ℚ (cls (across lam c))) +ℚ t)
-        (sound p q (sums_same tree.joint_acceleration x tree_solves.given (table c))
+        (sound p q (sums_same shape tree.joint_acceleration x tree_solves.given (table c))
         ∙ sound q right (solves.columns c (record { from = there.from; to = there.to }))
         ∙ cls_of_add (sub (m.torque c) (bias.torque c)) (across lam c)
         ∙ ap (λ (t : ℚ). t +ℚ cls (across lam c)) (cls_of_sub (m.torque c) (bias.torque c)))
@@ -142,7 +143,7 @@ module _ (shape : Shape) (m : Mechanism Frac) (k : Constraints Frac) (turn : ℕ
         same_trans (add (row_accelerations k turn tree r) (compliant lam r)) (add (add a (g r)) (compliant lam r)) fracs.nul (held_sums lam tree tree_moves r hr)
         (same_trans (add (add a (g r)) (compliant lam r)) (add (add b (g r)) (compliant lam r)) fracs.nul
         (add_same (add a (g r)) (add b (g r)) (compliant lam r) (compliant lam r)
-        (add_same a b (g r) (g r) (sums_same tree.joint_acceleration x tree_solves.given (J r)) (same_refl (g r))) (same_refl (compliant lam r)))
+        (add_same a b (g r) (g r) (sums_same shape tree.joint_acceleration x tree_solves.given (J r)) (same_refl (g r))) (same_refl (compliant lam r)))
         (solves.rows r (record { from = hr.from; to = hr.to })))
 
     pub moves_with : MovesWith shape m k turn x lam

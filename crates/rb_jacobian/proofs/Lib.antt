@@ -6,3 +6,5 @@ pub mod Accelerations
 pub mod Torques
 pub mod Turns
 pub mod Contact
+pub mod AtRest
+pub mod Rebound

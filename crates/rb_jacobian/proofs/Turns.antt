@@ -9,10 +9,10 @@ use Rattle.rb_spatial.proofs.Keep.{choice}
 use Rattle.rb_flat.specs.Shape.{Shape}
 use Rattle.rb_flat.specs.Mechanism.{Mechanism}
 use Rattle.rb_flat.specs.Dynamics.{Unknowns, none, Moves}
-use Rattle.rb_flat.specs.Contact.{Constraints, HasRow, RowsFit, row_acceleration, row_force, row_on, rows_on}
+use Rattle.rb_flat.specs.Contact.{Constraints, HasRow, RowsFit, row_acceleration, row_speed, row_force, row_on, rows_on}
 use Rattle.rb_flat.proofs.Equality.{same_fractions, vectors_refl, vectors_sym, vectors_trans, vneg_same, spatials_refl, spatials_trans, plus_same, spatial_sum_same}
 use Rattle.rb_flat.proofs.OneSolution.{down, down_top, down_step}
-use Rattle.rb_jacobian.specs.Jacobian.{row_accelerations}
+use Rattle.rb_jacobian.specs.Jacobian.{row_speeds, row_accelerations}
 use Rattle.rb_jacobian.specs.Laws.{HasTurns, TurnsAreOne}
 use Rattle.rb_jacobian.proofs.Descent.{descend}
 
@@ -97,6 +97,10 @@ acceleration_same : (turns : Bool) {d e : V3 Frac} (q : V3 Frac) (v a : Motion F
 unfolding row_acceleration
 acceleration_same turns q v a h = vdot_first _ h
 
+speed_same : (turns : Bool) {d e : V3 Frac} (q : V3 Frac) (v : Motion Frac) → Vectors Same d e → Same (row_speed fracs turns d q v) (row_speed fracs turns e q v)
+unfolding row_speed
+speed_same turns q v h = vdot_first _ h
+
 module _ (shape : Shape) (k : Constraints Frac) (fits : RowsFit shape k) (turn turn' : ℕ → Table Frac) (same : (i : ℕ) → i ≤ shape.bodies → Tables Same (turn i) (turn' i)) where
   first_row : (r : ℕ) → HasRow k r → Vectors Same (row (turn (k.row r).first) (k.row r).axis) (row (turn' (k.row r).first) (k.row r).axis)
   first_row r hr = row_same (same (k.row r).first (fits r hr).first) (k.row r).axis
@@ -126,6 +130,13 @@ module _ (shape : Shape) (k : Constraints Frac) (fits : RowsFit shape k) (turn t
       E.add _ _ _ _
       (acceleration_same w.turns n.first_point (s.speed w.first) (s.acceleration w.first) (first_row r hr))
       (E.neg _ _ (acceleration_same w.turns n.second_point (s.speed w.second) (s.acceleration w.second) (second_row r hr)))
+
+  pub row_speeds_same : (v : ℕ → Motion Frac) (r : ℕ) → HasRow k r → Same (row_speeds k turn v r) (row_speeds k turn' v r)
+  row_speeds_same v r hr =
+      let E = same_fractions in
+      let w = k.row r in
+      let n = k.numbers r in
+      E.add _ _ _ _ (speed_same w.turns n.first_point (v w.first) (first_row r hr)) (E.neg _ _ (speed_same w.turns n.second_point (v w.second) (second_row r hr)))
 
 -- forces from outside may be written otherwise
 pub other_outside : (shape : Shape) (m : Mechanism Frac) (outside other : ℕ → Force Frac) (s : Unknowns Frac) → ((i : ℕ) → Spatials Same (other i) (outside i))
