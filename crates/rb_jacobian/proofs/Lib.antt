@@ -8,3 +8,4 @@ pub mod Turns
 pub mod Contact
 pub mod AtRest
 pub mod Rebound
+pub mod Impact

@@ -2,6 +2,7 @@
 
 ghost use Rattle.rb_jacobian.specs.Laws.{VectorIsUnitForce, ValueIsAcceleration, JacobianGivesSpeeds, JacobianGivesAccelerations, JacobianGivesTorques, HasJacobian, JacobianIsOne};
 ghost use Rattle.rb_jacobian.specs.Laws.{HasTurns, TurnsAreOne, ContactIsBordered, ContactFromBordered, ContactHasOneSolution};
+ghost use Rattle.rb_jacobian.specs.Impact.{ImpactIsBordered, ImpactFromBordered, ImpactHasOneSolution};
 
 /// The vector of a row is its force at the size 1, and the rule of a row's value gives the
 /// acceleration of its point, or that of its turn.
@@ -32,4 +33,13 @@ pub fn contact_law()
     ensures solves { ContactIsBordered }
     ensures back { ContactFromBordered }
     ensures one { ContactHasOneSolution }
+{}
+
+/// The rows stop a tree, or throw it back, exactly where the changes of the speeds and the impulses
+/// solve the mass table bordered by the Jacobian, in which the rows do not give way; so an impact ends
+/// in exactly one way where these equations have one solution.
+pub fn impact_law()
+    ensures solves { ImpactIsBordered }
+    ensures back { ImpactFromBordered }
+    ensures one { ImpactHasOneSolution }
 {}
