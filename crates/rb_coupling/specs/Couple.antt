@@ -1,5 +1,5 @@
 -- What the coupling of rows over intervals is, and what is refused first. Featherstone, Rigid Body Dynamics Algorithms, chapter 8.
-use Rattle.std.specs.Prelude.{◌≡◌, ◌⊎◌, ℕ, suc, ◌<◌, ◌≤◌, List, Ok, Err}
+use Rattle.std.specs.Prelude.{◌≡◌, ◌⊎◌, ℕ, suc, ◌<◌, ◌≤◌, List, length, Ok, Err}
 use Rattle.rb_num.specs.Interval.{Interval}
 use Rattle.rb_num.specs.Dot.{iv_dot}
 use Rattle.rb_num.specs.Refusing.{iv_add, iv_div}
@@ -19,22 +19,22 @@ use Rattle.rb_bordered.specs.Coupling.{AreRowsReduced, AreCoupled}
 use Rattle.rb_bordered.specs.Elimination.{AreEliminated}
 use Rattle.rb_coupling.specs.Steps.{pairs_of, interval_row_steps, of_row}
 
--- zero lies in no pivot of the rows that a work holds
-abbrev pub HoldsRowDivisors : View → Type 0
-HoldsRowDivisors held = AreDivisors held.rows (C_at held)
+-- zero lies in no pivot of the first R rows that a work holds
+abbrev pub HoldsRowDivisors : ℕ → View → Type 0
+HoldsRowDivisors R held = AreDivisors R (C_at held)
 
 -- ---- values
--- a work holds Y, Z, the quotients l and the pivots C of the rows that another one held, with these compliances, and zero lies in no pivot
-pub record HoldsCoupling (given held : View) (mu : ℕ → Interval) : Type 0 where
+-- a work holds Y, Z, the quotients l and the pivots C of the first R rows that another one held, with these compliances, and zero lies in no pivot
+pub record HoldsCoupling (R : ℕ) (given held : View) (mu : ℕ → Interval) : Type 0 where
   pub left : ℕ → ℕ → ℕ → Interval
   pub alone : ℕ → Interval
   pub G : ℕ → ℕ → Interval
   pub table : ℕ → ℕ → ℕ → Interval
-  pub reduced : AreRowsReduced interval_row_steps (columns_of given) (above given.up) given.rows (L_at given) (D_at given) (J_at given) left (Y_at held)
+  pub reduced : AreRowsReduced interval_row_steps (columns_of given) (above given.up) R (L_at given) (D_at given) (J_at given) left (Y_at held)
       (Z_at held)
-  pub coupled : AreCoupled interval_row_steps (columns_of given) (above given.up) given.rows (Y_at held) (Z_at held) mu alone G
-  pub eliminated : AreEliminated interval_row_steps given.rows G table (l_at held) (C_at held)
-  pub divisors : HoldsRowDivisors held
+  pub coupled : AreCoupled interval_row_steps (columns_of given) (above given.up) R (Y_at held) (Z_at held) mu alone G
+  pub eliminated : AreEliminated interval_row_steps R G table (l_at held) (C_at held)
+  pub divisors : HoldsRowDivisors R held
 
 -- ---- refusals
 -- row r is refused, where the rows before it are reduced and divided: its first step, or a quotient
@@ -94,6 +94,6 @@ pub data IsCoupleRefused (n : ℕ) (up : ℕ → ℕ) (R : ℕ) (L : ℕ → ℕ
       AreCoupled interval_row_steps n up R Y Z mu alone G → k < R → AreEliminatedUntil k R G table l C →
       IsEliminationRefused R (suc k) (table k) e → IsCoupleRefused n up R L D J mu e
 
--- of the rows that a work held, with a list of compliances
+-- of the rows that a work held, as many as there are compliances
 abbrev pub RefusesCouple : View → List Interval → RowFault → Type 0
-RefusesCouple given mus e = IsCoupleRefused (columns_of given) (above given.up) given.rows (L_at given) (D_at given) (J_at given) (of_row mus) e
+RefusesCouple given mus e = IsCoupleRefused (columns_of given) (above given.up) (length mus) (L_at given) (D_at given) (J_at given) (of_row mus) e

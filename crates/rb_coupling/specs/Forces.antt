@@ -16,27 +16,27 @@ use Rattle.rb_bordered.specs.Forces.{IsRightReduced, IsRightDivided, AreForces, 
 use Rattle.rb_coupling.specs.Steps.{pairs_of, interval_row_steps}
 
 -- ---- values
--- e of a work is the right side of the forces that g, Y and z of another one give
-pub record HoldsRowSides (given held : View) : Type 0 where
+-- e of a work is the right side of the forces of R rows that g, Y and z of another one give
+pub record HoldsRowSides (R : ℕ) (given held : View) : Type 0 where
   pub without : ℕ → Interval
   pub total : ℕ → Interval
-  pub are : AreRowSides interval_row_steps (columns_of given) given.rows (Y_at given) (z_at given) (g_at given) without total (e_at held)
+  pub are : AreRowSides interval_row_steps (columns_of given) R (Y_at given) (z_at given) (g_at given) without total (e_at held)
 
--- lam of a work is what the quotients l and the pivots C of another one find for its right side e, and e what is divided by the pivots under way
-pub record HoldsRowForces (given held : View) : Type 0 where
+-- lam of a work is what the quotients l and the pivots C of R rows of another one find for its right side e, and e holds it too
+pub record HoldsRowForces (R : ℕ) (given held : View) : Type 0 where
   pub left : ℕ → ℕ → Interval
   pub reduced : ℕ → Interval
   pub divided : ℕ → Interval
   pub part : ℕ → ℕ → Interval
-  pub right_reduced : IsRightReduced interval_row_steps given.rows (l_at given) (e_at given) left reduced
-  pub right_divided : IsRightDivided interval_row_steps given.rows (C_at given) reduced divided
-  pub forces : AreForces interval_row_steps given.rows (l_at given) divided part (lam_at held)
-  pub kept : (r : ℕ) → IsRow given.rows r → e_at held r ≡ divided r
+  pub right_reduced : IsRightReduced interval_row_steps R (l_at given) (e_at given) left reduced
+  pub right_divided : IsRightDivided interval_row_steps R (C_at given) reduced divided
+  pub forces : AreForces interval_row_steps R (l_at given) divided part (lam_at held)
+  pub kept : (r : ℕ) → IsRow R r → e_at held r ≡ lam_at held r
 
--- w of a work is that of another one with what the forces add
-pub record HoldsAddedForces (given held : View) : Type 0 where
+-- w of a work is that of another one with what the forces of R rows add
+pub record HoldsAddedForces (R : ℕ) (given held : View) : Type 0 where
   pub more : ℕ → Interval
-  pub are : AreForcesAdded interval_row_steps (columns_of given) given.rows (Y_at given) (w_at given) (lam_at given) more (w_at held)
+  pub are : AreForcesAdded interval_row_steps (columns_of given) R (Y_at given) (w_at given) (lam_at given) more (w_at held)
 
 -- ---- refusals
 -- a sum and what is added to it are within the limit
@@ -92,11 +92,11 @@ pub data IsForceRefused (R : ℕ) (l : ℕ → ℕ → Interval) (C side : ℕ �
       ((p : ℕ) → suc k < p → p < q → lessened (own p) (l p (suc k)) (lam p) ≡ Ok (own (suc p))) →
       lessened (own q) (l q (suc k)) (lam q) ≡ Err N.Size → e ≡ Size (one K.lam (suc k)) → IsForceRefused R l C side e
 
-abbrev pub RefusesRowSides : View → RowFault → Type 0
-RefusesRowSides given e = IsRowSideRefused (columns_of given) given.rows (Y_at given) (z_at given) (g_at given) e
+abbrev pub RefusesRowSides : ℕ → View → RowFault → Type 0
+RefusesRowSides R given e = IsRowSideRefused (columns_of given) R (Y_at given) (z_at given) (g_at given) e
 
-abbrev pub RefusesRowForces : View → RowFault → Type 0
-RefusesRowForces given e = IsForceRefused given.rows (l_at given) (C_at given) (e_at given) e
+abbrev pub RefusesRowForces : ℕ → View → RowFault → Type 0
+RefusesRowForces R given e = IsForceRefused R (l_at given) (C_at given) (e_at given) e
 
-abbrev pub RefusesAddedForces : View → RowFault → Type 0
-RefusesAddedForces given e = IsAddRefused (columns_of given) given.rows (Y_at given) (w_at given) (lam_at given) e
+abbrev pub RefusesAddedForces : ℕ → View → RowFault → Type 0
+RefusesAddedForces R given e = IsAddRefused (columns_of given) R (Y_at given) (w_at given) (lam_at given) e

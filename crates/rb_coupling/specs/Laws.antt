@@ -28,35 +28,35 @@ RowsLie n R J v = (r : ℕ) → IsRow R r → NumbersLie n (J r) (v r)
 abbrev pub QuotientsLie : ℕ → (ℕ → ℕ → Frac) → (ℕ → ℕ → Interval) → Type 0
 QuotientsLie R l v = (q r : ℕ) → IsRow R q → IsRow R r → r < q → LiesIn (l q r) (v q r)
 
--- the factors of rows without a zero pivot, within those that a work holds
-pub record AreRowsWithin (held : View) (Y l : ℕ → ℕ → Frac) (C : ℕ → Frac) : Type 0 where
-  pub pivots : ArePivots held.rows C
-  pub rows : RowsLie (columns_of held) held.rows Y (Y_at held)
-  pub quotients : QuotientsLie held.rows l (l_at held)
-  pub diagonal : NumbersLie held.rows C (C_at held)
+-- the factors of R rows without a zero pivot, within those that a work holds
+pub record AreRowsWithin (R : ℕ) (held : View) (Y l : ℕ → ℕ → Frac) (C : ℕ → Frac) : Type 0 where
+  pub pivots : ArePivots R C
+  pub rows : RowsLie (columns_of held) R Y (Y_at held)
+  pub quotients : QuotientsLie R l (l_at held)
+  pub diagonal : NumbersLie R C (C_at held)
 
 -- of all rows, compliances and factors of the table within the given ones
-pub record EnclosesCoupling (given held : View) (mus : ℕ → Interval) : Type 0 where
+pub record EnclosesCoupling (R : ℕ) (given held : View) (mus : ℕ → Interval) : Type 0 where
   pub at : (L : ℕ → ℕ → Frac) (D : ℕ → Frac) (J : ℕ → ℕ → Frac) (mu : ℕ → Frac) (Y l : ℕ → ℕ → Frac) (C : ℕ → Frac) →
       FactorsLie (columns_of given) (above given.up) L (L_at given) → NumbersLie (columns_of given) D (D_at given) →
-      RowsLie (columns_of given) given.rows J (J_at given) → NumbersLie given.rows mu mus →
-      HaveRowFactors fraction_row_steps (columns_of given) (above given.up) given.rows L D J mu Y l C → AreRowsWithin held Y l C
+      RowsLie (columns_of given) R J (J_at given) → NumbersLie R mu mus →
+      HaveRowFactors fraction_row_steps (columns_of given) (above given.up) R L D J mu Y l C → AreRowsWithin R held Y l C
 
-pub record EnclosesRowSides (given held : View) : Type 0 where
-  pub at : (Y : ℕ → ℕ → Frac) (z g without total e : ℕ → Frac) → RowsLie (columns_of given) given.rows Y (Y_at given) →
-      NumbersLie (columns_of given) z (z_at given) → NumbersLie given.rows g (g_at given) →
-      AreRowSides fraction_row_steps (columns_of given) given.rows Y z g without total e → NumbersLie given.rows e (e_at held)
+pub record EnclosesRowSides (R : ℕ) (given held : View) : Type 0 where
+  pub at : (Y : ℕ → ℕ → Frac) (z g without total e : ℕ → Frac) → RowsLie (columns_of given) R Y (Y_at given) →
+      NumbersLie (columns_of given) z (z_at given) → NumbersLie R g (g_at given) →
+      AreRowSides fraction_row_steps (columns_of given) R Y z g without total e → NumbersLie R e (e_at held)
 
-pub record EnclosesRowForces (given held : View) : Type 0 where
+pub record EnclosesRowForces (R : ℕ) (given held : View) : Type 0 where
   pub at : (l : ℕ → ℕ → Frac) (C e : ℕ → Frac) (left : ℕ → ℕ → Frac) (reduced divided : ℕ → Frac) (part : ℕ → ℕ → Frac) (lam : ℕ → Frac) →
-      QuotientsLie given.rows l (l_at given) → NumbersLie given.rows C (C_at given) → NumbersLie given.rows e (e_at given) →
-      IsRightReduced fraction_row_steps given.rows l e left reduced → IsRightDivided fraction_row_steps given.rows C reduced divided →
-      AreForces fraction_row_steps given.rows l divided part lam → NumbersLie given.rows lam (lam_at held)
+      QuotientsLie R l (l_at given) → NumbersLie R C (C_at given) → NumbersLie R e (e_at given) →
+      IsRightReduced fraction_row_steps R l e left reduced → IsRightDivided fraction_row_steps R C reduced divided →
+      AreForces fraction_row_steps R l divided part lam → NumbersLie R lam (lam_at held)
 
-pub record EnclosesAddedForces (given held : View) : Type 0 where
-  pub at : (Y : ℕ → ℕ → Frac) (w lam more added : ℕ → Frac) → RowsLie (columns_of given) given.rows Y (Y_at given) →
-      NumbersLie (columns_of given) w (w_at given) → NumbersLie given.rows lam (lam_at given) →
-      AreForcesAdded fraction_row_steps (columns_of given) given.rows Y w lam more added → NumbersLie (columns_of given) added (w_at held)
+pub record EnclosesAddedForces (R : ℕ) (given held : View) : Type 0 where
+  pub at : (Y : ℕ → ℕ → Frac) (w lam more added : ℕ → Frac) → RowsLie (columns_of given) R Y (Y_at given) →
+      NumbersLie (columns_of given) w (w_at given) → NumbersLie R lam (lam_at given) →
+      AreForcesAdded fraction_row_steps (columns_of given) R Y w lam more added → NumbersLie (columns_of given) added (w_at held)
 
 -- ---- the bordered equations
 -- they have exactly one solution, and it lies in these intervals

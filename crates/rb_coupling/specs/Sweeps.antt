@@ -1,4 +1,4 @@
--- What the passes do, in their order, over the lists of a work. `n` and `R` count the columns and the rows.
+-- What the passes do, in their order, over the lists of a work. `n` and `R` count the columns and the rows, `room` the rows that there is room for.
 use Rattle.std.specs.Prelude.{ℕ, ◌+◌, ◌*◌, ◌==◌, if◌then◌else◌, List, length, slice_set, slice_index_or, Result, Ok}
 use Rattle.rb_result.specs.Steps.{◌>>=◌}
 use Rattle.rb_num.specs.Interval.{Interval, zero_interval, negative_of}
@@ -62,45 +62,46 @@ entry_of n mus Y Z q r =
     iv_dot (pairs_of (cell_at n Y r) (cell_at n Z q) n) >>= λ t. if r == q then iv_add t (of_row mus q) else Ok t
 
 unfoldable pub couple_step : ℕ → ℕ → List Interval → List Interval → List Interval → ℕ → ℕ → List Interval → Result (List Interval) RowFault
-couple_step n R mus Y Z q r pairs = named_as (two K.G q r) (entry_of n mus Y Z q r) >>= λ v. Ok (slice_set pairs (place_of R q r) v)
+couple_step n room mus Y Z q r pairs = named_as (two K.G q r) (entry_of n mus Y Z q r) >>= λ v. Ok (slice_set pairs (place_of room q r) v)
 
 unfoldable pub couple_row_step : ℕ → ℕ → List Interval → List Interval → List Interval → ℕ → List Interval → Result (List Interval) RowFault
-couple_row_step n R mus Y Z q pairs = sweep (couple_step n R mus Y Z q) (upward 1 (q + 1)) pairs
+couple_row_step n room mus Y Z q pairs = sweep (couple_step n room mus Y Z q) (upward 1 (q + 1)) pairs
 
-abbrev pub coupled_of : ℕ → ℕ → List Interval → List Interval → List Interval → List Interval → Result (List Interval) RowFault
-coupled_of n R mus Y Z pairs = sweep (couple_row_step n R mus Y Z) (upward 1 (R + 1)) pairs
+abbrev pub coupled_of : ℕ → ℕ → ℕ → List Interval → List Interval → List Interval → List Interval → Result (List Interval) RowFault
+coupled_of n room R mus Y Z pairs = sweep (couple_row_step n room mus Y Z) (upward 1 (R + 1)) pairs
 
 -- ---- its elimination
 -- the entry of q in column r is divided by the pivot p, and column 0 keeps what it was
 unfoldable pub quotient_step : ℕ → ℕ → Interval → ℕ → List Interval → Result (List Interval) RowFault
-quotient_step R r p q pairs =
-    named_as (two K.l q r) (iv_div (cell_at R pairs q r) p) >>= λ v.
-    Ok (slice_set (slice_set pairs (place_of R q 0) (cell_at R pairs q r)) (place_of R q r) v)
+quotient_step room r p q pairs =
+    named_as (two K.l q r) (iv_div (cell_at room pairs q r) p) >>= λ v.
+    Ok (slice_set (slice_set pairs (place_of room q 0) (cell_at room pairs q r)) (place_of room q r) v)
 
-abbrev pub quotients_of : ℕ → ℕ → Interval → List Interval → Result (List Interval) RowFault
-quotients_of R r p pairs = sweep (quotient_step R r p) (upward (r + 1) (R + 1)) pairs
+abbrev pub quotients_of : ℕ → ℕ → ℕ → Interval → List Interval → Result (List Interval) RowFault
+quotients_of room R r p pairs = sweep (quotient_step room r p) (upward (r + 1) (R + 1)) pairs
 
 -- the entry of q and t is lessened by the quotient of q times what t had
 unfoldable pub update_step : ℕ → ℕ → ℕ → ℕ → List Interval → Result (List Interval) RowFault
-update_step R r q t pairs =
-    named_as (two K.l q r) (lessened (cell_at R pairs q t) (cell_at R pairs q r) (cell_at R pairs t 0)) >>= λ v. Ok (slice_set pairs (place_of R q t) v)
+update_step room r q t pairs =
+    named_as (two K.l q r) (lessened (cell_at room pairs q t) (cell_at room pairs q r) (cell_at room pairs t 0)) >>= λ v.
+    Ok (slice_set pairs (place_of room q t) v)
 
 unfoldable pub update_row_step : ℕ → ℕ → ℕ → List Interval → Result (List Interval) RowFault
-update_row_step R r q pairs = sweep (update_step R r q) (upward (r + 1) (q + 1)) pairs
+update_row_step room r q pairs = sweep (update_step room r q) (upward (r + 1) (q + 1)) pairs
 
-abbrev pub updates_of : ℕ → ℕ → List Interval → Result (List Interval) RowFault
-updates_of R r pairs = sweep (update_row_step R r) (upward (r + 1) (R + 1)) pairs
+abbrev pub updates_of : ℕ → ℕ → ℕ → List Interval → Result (List Interval) RowFault
+updates_of room R r pairs = sweep (update_row_step room r) (upward (r + 1) (R + 1)) pairs
 
-unfoldable pub eliminate_step : ℕ → ℕ → List Interval → Result (List Interval) RowFault
-eliminate_step R r pairs = pivot_as (one K.C r) (cell_at R pairs r r) >>= λ p. quotients_of R r p pairs >>= λ t. updates_of R r t
+unfoldable pub eliminate_step : ℕ → ℕ → ℕ → List Interval → Result (List Interval) RowFault
+eliminate_step room R r pairs = pivot_as (one K.C r) (cell_at room pairs r r) >>= λ p. quotients_of room R r p pairs >>= λ t. updates_of room R r t
 
-abbrev pub eliminated_of : ℕ → List Interval → Result (List Interval) RowFault
-eliminated_of R pairs = sweep (eliminate_step R) (upward 1 (R + 1)) pairs
+abbrev pub eliminated_of : ℕ → ℕ → List Interval → Result (List Interval) RowFault
+eliminated_of room R pairs = sweep (eliminate_step room R) (upward 1 (R + 1)) pairs
 
 -- Y, Z and the pairs
-unfoldable pub couple_of : List ℕ → ℕ → List Interval → List Interval → List Interval → List Interval × List Interval × List Interval → Result (List Interval × List Interval × List Interval) RowFault
-couple_of up R table J mus s =
-    rows_of up R table J (s.0, s.1) >>= λ t. coupled_of (length up) R mus t.0 t.1 s.2 >>= λ G. eliminated_of R G >>= λ pairs. Ok (t.0, t.1, pairs)
+unfoldable pub couple_of : List ℕ → ℕ → ℕ → List Interval → List Interval → List Interval → List Interval × List Interval × List Interval → Result (List Interval × List Interval × List Interval) RowFault
+couple_of up room R table J mus s =
+    rows_of up R table J (s.0, s.1) >>= λ t. coupled_of (length up) room R mus t.0 t.1 s.2 >>= λ G. eliminated_of room R G >>= λ pairs. Ok (t.0, t.1, pairs)
 
 -- ---- forces
 -- start, and the sum of the products
@@ -116,36 +117,45 @@ sides_of n R Y z g e = sweep (side_step n Y z g) (upward 1 (R + 1)) e
 
 -- the right side of q is lessened by that of r, which is own
 unfoldable pub lessen_step : ℕ → List Interval → ℕ → Interval → ℕ → List Interval → Result (List Interval) RowFault
-lessen_step R pairs r own q e = named_as (one K.e r) (lessened (number_at e q) (cell_at R pairs q r) own) >>= λ v. Ok (slice_set e q v)
+lessen_step room pairs r own q e = named_as (one K.e r) (lessened (number_at e q) (cell_at room pairs q r) own) >>= λ v. Ok (slice_set e q v)
 
-unfoldable pub lessen_row_step : ℕ → List Interval → ℕ → List Interval → Result (List Interval) RowFault
-lessen_row_step R pairs r e = sweep (lessen_step R pairs r (number_at e r)) (upward (r + 1) (R + 1)) e
+unfoldable pub lessen_row_step : ℕ → ℕ → List Interval → ℕ → List Interval → Result (List Interval) RowFault
+lessen_row_step room R pairs r e = sweep (lessen_step room pairs r (number_at e r)) (upward (r + 1) (R + 1)) e
 
-abbrev pub right_reduced_of : ℕ → List Interval → List Interval → Result (List Interval) RowFault
-right_reduced_of R pairs e = sweep (lessen_row_step R pairs) (upward 1 (R + 1)) e
+abbrev pub right_reduced_of : ℕ → ℕ → List Interval → List Interval → Result (List Interval) RowFault
+right_reduced_of room R pairs e = sweep (lessen_row_step room R pairs) (upward 1 (R + 1)) e
 
 unfoldable pub right_divide_step : ℕ → List Interval → ℕ → List Interval → Result (List Interval) RowFault
-right_divide_step R pairs r e = named_as (one K.e r) (iv_div (number_at e r) (cell_at R pairs r r)) >>= λ q. Ok (slice_set e r q)
+right_divide_step room pairs r e = named_as (one K.e r) (iv_div (number_at e r) (cell_at room pairs r r)) >>= λ q. Ok (slice_set e r q)
 
-abbrev pub right_divided_of : ℕ → List Interval → List Interval → Result (List Interval) RowFault
-right_divided_of R pairs e = sweep (right_divide_step R pairs) (upward 1 (R + 1)) e
+abbrev pub right_divided_of : ℕ → ℕ → List Interval → List Interval → Result (List Interval) RowFault
+right_divided_of room R pairs e = sweep (right_divide_step room pairs) (upward 1 (R + 1)) e
 
 -- what is left of row r is lessened by the force of q
 unfoldable pub part_step : ℕ → List Interval → List Interval → ℕ → ℕ → Interval → Result Interval NumFault
-part_step R pairs lam r q part = lessened part (cell_at R pairs q r) (number_at lam q)
+part_step room pairs lam r q part = lessened part (cell_at room pairs q r) (number_at lam q)
 
-abbrev pub part_of : ℕ → List Interval → List Interval → List Interval → ℕ → Result Interval NumFault
-part_of R pairs e lam r = sweep (part_step R pairs lam r) (upward (r + 1) (R + 1)) (number_at e r)
+abbrev pub part_of : ℕ → ℕ → List Interval → List Interval → List Interval → ℕ → Result Interval NumFault
+part_of room R pairs e lam r = sweep (part_step room pairs lam r) (upward (r + 1) (R + 1)) (number_at e r)
 
-unfoldable pub force_step : ℕ → List Interval → List Interval → ℕ → List Interval → Result (List Interval) RowFault
-force_step R pairs e r lam = named_as (one K.lam r) (part_of R pairs e lam r) >>= λ v. Ok (slice_set lam r v)
+unfoldable pub force_step : ℕ → ℕ → List Interval → List Interval → ℕ → List Interval → Result (List Interval) RowFault
+force_step room R pairs e r lam = named_as (one K.lam r) (part_of room R pairs e lam r) >>= λ v. Ok (slice_set lam r v)
 
-abbrev pub forces_of : ℕ → List Interval → List Interval → List Interval → Result (List Interval) RowFault
-forces_of R pairs e lam = sweep (force_step R pairs e) (downward 1 (R + 1)) lam
+abbrev pub forces_of : ℕ → ℕ → List Interval → List Interval → List Interval → Result (List Interval) RowFault
+forces_of room R pairs e lam = sweep (force_step room R pairs e) (downward 1 (R + 1)) lam
+
+-- the right side of each row becomes its force
+unfoldable pub keep_step : List Interval → ℕ → List Interval → Result (List Interval) RowFault
+keep_step lam r e = Ok (slice_set e r (number_at lam r))
+
+abbrev pub kept_of : ℕ → List Interval → List Interval → Result (List Interval) RowFault
+kept_of R lam e = sweep (keep_step lam) (upward 1 (R + 1)) e
 
 -- the right side and the forces
-unfoldable pub row_forces_of : ℕ → List Interval → List Interval × List Interval → Result (List Interval × List Interval) RowFault
-row_forces_of R pairs s = right_reduced_of R pairs s.0 >>= λ r. right_divided_of R pairs r >>= λ e. forces_of R pairs e s.1 >>= λ lam. Ok (e, lam)
+unfoldable pub row_forces_of : ℕ → ℕ → List Interval → List Interval × List Interval → Result (List Interval × List Interval) RowFault
+row_forces_of room R pairs s =
+    right_reduced_of room R pairs s.0 >>= λ r. right_divided_of room R pairs r >>= λ d. forces_of room R pairs d s.1 >>= λ lam.
+    kept_of R lam d >>= λ e. Ok (e, lam)
 
 -- what the forces add to the number of c
 unfoldable pub add_step : ℕ → ℕ → List Interval → List Interval → ℕ → List Interval → Result (List Interval) RowFault

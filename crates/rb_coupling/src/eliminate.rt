@@ -24,13 +24,14 @@ fn divide_entry(r: u32, p: Iv, q: u32, work: &mut Work) -> Result<(), RowFault>
 
 // The later rows have their quotients.
 #[tactic(auto, using(rb_sweep::proofs::SweepSteps::sweeps))]
-fn divide_column(r: u32, p: Iv, work: &mut Work) -> Result<(), RowFault>
-    requires row { r ≤ work.old.rows }
-    ensures exact { Answers result (quotients_of work.old.rows r p work.old.pairs) work.new.pairs }
+fn divide_column(rows: u32, r: u32, p: Iv, work: &mut Work) -> Result<(), RowFault>
+    requires rows { rows ≤ work.old.rows }
+    requires row { r ≤ rows }
+    ensures exact { Answers result (quotients_of work.old.rows rows r p work.old.pairs) work.new.pairs }
     ensures others { work.new ≡ record work.old { pairs = work.new.pairs } }
 {
-    let end = work.rows() + 1;
-    for q in r + 1..end {
+    let _sizes = work.rows();
+    for q in r + 1..rows + 1 {
         divide_entry(r, p, q, work)?;
     }
     Ok(())
@@ -71,13 +72,14 @@ fn lessen_row(r: u32, q: u32, work: &mut Work) -> Result<(), RowFault>
 
 // The entries of the later rows.
 #[tactic(auto, using(rb_sweep::proofs::SweepSteps::sweeps))]
-fn lessen_rows(r: u32, work: &mut Work) -> Result<(), RowFault>
-    requires row { r ≤ work.old.rows }
-    ensures exact { Answers result (updates_of work.old.rows r work.old.pairs) work.new.pairs }
+fn lessen_rows(rows: u32, r: u32, work: &mut Work) -> Result<(), RowFault>
+    requires rows { rows ≤ work.old.rows }
+    requires row { r ≤ rows }
+    ensures exact { Answers result (updates_of work.old.rows rows r work.old.pairs) work.new.pairs }
     ensures others { work.new ≡ record work.old { pairs = work.new.pairs } }
 {
-    let end = work.rows() + 1;
-    for q in r + 1..end {
+    let _sizes = work.rows();
+    for q in r + 1..rows + 1 {
         lessen_row(r, q, work)?;
     }
     Ok(())
@@ -85,25 +87,27 @@ fn lessen_rows(r: u32, work: &mut Work) -> Result<(), RowFault>
 
 // Row r is eliminated.
 #[tactic(auto, unfolding(crate::specs::Sweeps::eliminate_step))]
-fn eliminate_row(r: u32, work: &mut Work) -> Result<(), RowFault>
-    requires row { r ≤ work.old.rows }
-    ensures exact { Answers result (eliminate_step work.old.rows r work.old.pairs) work.new.pairs }
+fn eliminate_row(rows: u32, r: u32, work: &mut Work) -> Result<(), RowFault>
+    requires rows { rows ≤ work.old.rows }
+    requires row { r ≤ rows }
+    ensures exact { Answers result (eliminate_step work.old.rows rows r work.old.pairs) work.new.pairs }
     ensures others { work.new ≡ record work.old { pairs = work.new.pairs } }
 {
     let p = pivot(work.C(r), Name::one(NameKind::C, r))?;
-    divide_column(r, p, work)?;
-    lessen_rows(r, work)
+    divide_column(rows, r, p, work)?;
+    lessen_rows(rows, r, work)
 }
 
 // The rows from the first on.
 #[tactic(auto, using(rb_sweep::proofs::SweepSteps::sweeps))]
-pub(crate) fn eliminate_rows(work: &mut Work) -> Result<(), RowFault>
-    ensures exact { Answers result (eliminated_of work.old.rows work.old.pairs) work.new.pairs }
+pub(crate) fn eliminate_rows(rows: u32, work: &mut Work) -> Result<(), RowFault>
+    requires rows { rows ≤ work.old.rows }
+    ensures exact { Answers result (eliminated_of work.old.rows rows work.old.pairs) work.new.pairs }
     ensures others { work.new ≡ record work.old { pairs = work.new.pairs } }
 {
-    let end = work.rows() + 1;
-    for r in 1..end {
-        eliminate_row(r, work)?;
+    let _sizes = work.rows();
+    for r in 1..rows + 1 {
+        eliminate_row(rows, r, work)?;
     }
     Ok(())
 }

@@ -8,7 +8,7 @@ ghost use Rattle.rb_factor.specs.Sweeps.{number_at};
 ghost use Rattle.rb_coupling.specs.Couple.{HoldsRowDivisors};
 ghost use Rattle.rb_coupling.specs.Forces.{HoldsRowSides, HoldsRowForces, HoldsAddedForces, RefusesRowSides, RefusesRowForces, RefusesAddedForces};
 ghost use Rattle.rb_coupling.specs.Laws.{EnclosesRowSides, EnclosesRowForces, EnclosesAddedForces};
-ghost use Rattle.rb_coupling.specs.Sweeps.{cell_at, total_of, side_step, sides_of, lessen_step, lessen_row_step, right_reduced_of, right_divide_step, right_divided_of, part_step, part_of, force_step, forces_of, row_forces_of, add_step, added_of};
+ghost use Rattle.rb_coupling.specs.Sweeps.{cell_at, total_of, side_step, sides_of, lessen_step, lessen_row_step, right_reduced_of, right_divide_step, right_divided_of, part_step, part_of, force_step, forces_of, keep_step, kept_of, row_forces_of, add_step, added_of};
 
 use crate::sums::{sum_of_column, sum_of_row};
 use rb_num::{Iv, NumFault};
@@ -39,12 +39,13 @@ fn find_side(r: u32, work: &mut Work) -> Result<(), RowFault>
 
 // The rows from the first on.
 #[tactic(auto, using(rb_sweep::proofs::SweepSteps::sweeps))]
-fn find_sides(work: &mut Work) -> Result<(), RowFault>
-    ensures exact { Answers result (sides_of (columns_of work.old) work.old.rows work.old.Y work.old.z work.old.g work.old.e) work.new.e }
+fn find_sides(rows: u32, work: &mut Work) -> Result<(), RowFault>
+    requires rows { rows ≤ work.old.rows }
+    ensures exact { Answers result (sides_of (columns_of work.old) rows work.old.Y work.old.z work.old.g work.old.e) work.new.e }
     ensures others { work.new ≡ record work.old { e = work.new.e } }
 {
-    let end = work.rows() + 1;
-    for r in 1..end {
+    let _sizes = work.rows();
+    for r in 1..rows + 1 {
         find_side(r, work)?;
     }
     Ok(())
@@ -66,14 +67,15 @@ fn lessen_side(r: u32, own: Iv, q: u32, work: &mut Work) -> Result<(), RowFault>
 
 // Row r is taken from the later ones.
 #[tactic(auto, unfolding(crate::specs::Sweeps::lessen_row_step), using(rb_sweep::proofs::SweepSteps::sweeps))]
-fn take_row(r: u32, work: &mut Work) -> Result<(), RowFault>
-    requires row { r ≤ work.old.rows }
-    ensures exact { Answers result (lessen_row_step work.old.rows work.old.pairs r work.old.e) work.new.e }
+fn take_row(rows: u32, r: u32, work: &mut Work) -> Result<(), RowFault>
+    requires rows { rows ≤ work.old.rows }
+    requires row { r ≤ rows }
+    ensures exact { Answers result (lessen_row_step work.old.rows rows work.old.pairs r work.old.e) work.new.e }
     ensures others { work.new ≡ record work.old { e = work.new.e } }
 {
-    let end = work.rows() + 1;
+    let _sizes = work.rows();
     let own = work.e(r);
-    for q in r + 1..end {
+    for q in r + 1..rows + 1 {
         lessen_side(r, own, q, work)?;
     }
     Ok(())
@@ -81,13 +83,14 @@ fn take_row(r: u32, work: &mut Work) -> Result<(), RowFault>
 
 // The rows from the first on.
 #[tactic(auto, using(rb_sweep::proofs::SweepSteps::sweeps))]
-fn take_rows(work: &mut Work) -> Result<(), RowFault>
-    ensures exact { Answers result (right_reduced_of work.old.rows work.old.pairs work.old.e) work.new.e }
+fn take_rows(rows: u32, work: &mut Work) -> Result<(), RowFault>
+    requires rows { rows ≤ work.old.rows }
+    ensures exact { Answers result (right_reduced_of work.old.rows rows work.old.pairs work.old.e) work.new.e }
     ensures others { work.new ≡ record work.old { e = work.new.e } }
 {
-    let end = work.rows() + 1;
-    for r in 1..end {
-        take_row(r, work)?;
+    let _sizes = work.rows();
+    for r in 1..rows + 1 {
+        take_row(rows, r, work)?;
     }
     Ok(())
 }
@@ -106,12 +109,13 @@ fn divide_row(r: u32, work: &mut Work) -> Result<(), RowFault>
 
 // The rows from the first on.
 #[tactic(auto, using(rb_sweep::proofs::SweepSteps::sweeps))]
-fn divide_rows(work: &mut Work) -> Result<(), RowFault>
-    ensures exact { Answers result (right_divided_of work.old.rows work.old.pairs work.old.e) work.new.e }
+fn divide_rows(rows: u32, work: &mut Work) -> Result<(), RowFault>
+    requires rows { rows ≤ work.old.rows }
+    ensures exact { Answers result (right_divided_of work.old.rows rows work.old.pairs work.old.e) work.new.e }
     ensures others { work.new ≡ record work.old { e = work.new.e } }
 {
-    let end = work.rows() + 1;
-    for r in 1..end {
+    let _sizes = work.rows();
+    for r in 1..rows + 1 {
         divide_row(r, work)?;
     }
     Ok(())
@@ -119,14 +123,15 @@ fn divide_rows(work: &mut Work) -> Result<(), RowFault>
 
 // The quotient of row r, lessened by the forces of the later rows.
 #[tactic(auto, unfolding(crate::specs::Sweeps::part_step), using(rb_sweep::proofs::SweepSteps::sweeps))]
-fn force_left(r: u32, work: &Work) -> Result<Iv, NumFault>
-    requires row { r ≤ work.now.rows }
-    ensures exact { result ≡ part_of work.now.rows work.now.pairs work.now.e work.now.lam r }
+fn force_left(rows: u32, r: u32, work: &Work) -> Result<Iv, NumFault>
+    requires rows { rows ≤ work.now.rows }
+    requires row { r ≤ rows }
+    ensures exact { result ≡ part_of work.now.rows rows work.now.pairs work.now.e work.now.lam r }
     ensures size { IfErr result (λ e. e ≡ NumFault.Size) }
 {
-    let end = work.rows() + 1;
+    let _sizes = work.rows();
     let mut part = work.e(r);
-    for q in r + 1..end {
+    for q in r + 1..rows + 1 {
         part = part.plus_product(work.l(q, r).neg(), work.lam(q))?;
     }
     Ok(part)
@@ -134,112 +139,138 @@ fn force_left(r: u32, work: &Work) -> Result<Iv, NumFault>
 
 // The force of row r.
 #[tactic(auto, unfolding(crate::specs::Sweeps::force_step))]
-fn find_force(r: u32, work: &mut Work) -> Result<(), RowFault>
-    requires row { r ≤ work.old.rows }
-    ensures exact { Answers result (force_step work.old.rows work.old.pairs work.old.e r work.old.lam) work.new.lam }
+fn find_force(rows: u32, r: u32, work: &mut Work) -> Result<(), RowFault>
+    requires rows { rows ≤ work.old.rows }
+    requires row { r ≤ rows }
+    ensures exact { Answers result (force_step work.old.rows rows work.old.pairs work.old.e r work.old.lam) work.new.lam }
     ensures others { work.new ≡ record work.old { lam = work.new.lam } }
 {
-    let force = named(force_left(r, work), Name::one(NameKind::lam, r))?;
+    let force = named(force_left(rows, r, work), Name::one(NameKind::lam, r))?;
     work.set_lam(r, force);
     Ok(())
 }
 
 // The rows from the last on.
 #[tactic(auto, using(rb_sweep::proofs::SweepSteps::sweeps_down))]
-fn find_forces(work: &mut Work) -> Result<(), RowFault>
-    ensures exact { Answers result (forces_of work.old.rows work.old.pairs work.old.e work.old.lam) work.new.lam }
+fn find_forces(rows: u32, work: &mut Work) -> Result<(), RowFault>
+    requires rows { rows ≤ work.old.rows }
+    ensures exact { Answers result (forces_of work.old.rows rows work.old.pairs work.old.e work.old.lam) work.new.lam }
     ensures others { work.new ≡ record work.old { lam = work.new.lam } }
 {
-    let end = work.rows() + 1;
-    for r in (1..end).rev() {
-        find_force(r, work)?;
+    let _sizes = work.rows();
+    for r in (1..rows + 1).rev() {
+        find_force(rows, r, work)?;
     }
     Ok(())
 }
 
-// The three steps in turn.
+// The right side of each row becomes its force.
+#[tactic(auto, unfolding(crate::specs::Sweeps::keep_step), using(rb_sweep::proofs::SweepSteps::sweeps))]
+fn keep_forces(rows: u32, work: &mut Work) -> Result<(), RowFault>
+    requires rows { rows ≤ work.old.rows }
+    ensures exact { Answers result (kept_of rows work.old.lam work.old.e) work.new.e }
+    ensures others { work.new ≡ record work.old { e = work.new.e } }
+{
+    let _sizes = work.rows();
+    for r in 1..rows + 1 {
+        let force = work.lam(r);
+        work.set_e(r, force);
+    }
+    Ok(())
+}
+
+// The four steps in turn.
 #[tactic(auto, unfolding(crate::specs::Sweeps::row_forces_of))]
-fn find_all(work: &mut Work) -> Result<(), RowFault>
-    ensures exact { Answers result (row_forces_of work.old.rows work.old.pairs (work.old.e, work.old.lam)) (work.new.e, work.new.lam) }
+fn find_all(rows: u32, work: &mut Work) -> Result<(), RowFault>
+    requires rows { rows ≤ work.old.rows }
+    ensures exact { Answers result (row_forces_of work.old.rows rows work.old.pairs (work.old.e, work.old.lam)) (work.new.e, work.new.lam) }
     ensures others { work.new ≡ record work.old { e = work.new.e; lam = work.new.lam } }
 {
-    take_rows(work)?;
-    divide_rows(work)?;
-    find_forces(work)
+    take_rows(rows, work)?;
+    divide_rows(rows, work)?;
+    find_forces(rows, work)?;
+    keep_forces(rows, work)
 }
 
 // The number of column c, and what the forces add to it.
 #[tactic(auto, unfolding(crate::specs::Sweeps::total_of))]
-fn column_total(c: u32, work: &Work) -> Result<Iv, NumFault>
+fn column_total(rows: u32, c: u32, work: &Work) -> Result<Iv, NumFault>
+    requires rows { rows ≤ work.now.rows }
     requires column { c ≤ columns_of work.now }
-    ensures exact { result ≡ total_of (number_at work.now.w c) work.now.rows (λ r. cell_at (columns_of work.now) work.now.Y r c) (number_at work.now.lam) }
+    ensures exact { result ≡ total_of (number_at work.now.w c) rows (λ r. cell_at (columns_of work.now) work.now.Y r c) (number_at work.now.lam) }
     ensures size { IfErr result (λ e. e ≡ NumFault.Size) }
 {
-    let sum = sum_of_column(work, c)?;
+    let sum = sum_of_column(rows, work, c)?;
     work.w(c).add(sum)
 }
 
 // It is put.
 #[tactic(auto, unfolding(crate::specs::Sweeps::add_step))]
-fn add_to_column(c: u32, work: &mut Work) -> Result<(), RowFault>
+fn add_to_column(rows: u32, c: u32, work: &mut Work) -> Result<(), RowFault>
+    requires rows { rows ≤ work.old.rows }
     requires column { c ≤ columns_of work.old }
-    ensures exact { Answers result (add_step (columns_of work.old) work.old.rows work.old.Y work.old.lam c work.old.w) work.new.w }
+    ensures exact { Answers result (add_step (columns_of work.old) rows work.old.Y work.old.lam c work.old.w) work.new.w }
     ensures others { work.new ≡ record work.old { w = work.new.w } }
 {
-    let total = named(column_total(c, work), Name::one(NameKind::w, c))?;
+    let total = named(column_total(rows, c, work), Name::one(NameKind::w, c))?;
     work.set_w(c, total);
     Ok(())
 }
 
 // The columns from the first on.
 #[tactic(auto, using(rb_sweep::proofs::SweepSteps::sweeps))]
-fn add_to_columns(work: &mut Work) -> Result<(), RowFault>
-    ensures exact { Answers result (added_of (columns_of work.old) work.old.rows work.old.Y work.old.lam work.old.w) work.new.w }
+fn add_to_columns(rows: u32, work: &mut Work) -> Result<(), RowFault>
+    requires rows { rows ≤ work.old.rows }
+    ensures exact { Answers result (added_of (columns_of work.old) rows work.old.Y work.old.lam work.old.w) work.new.w }
     ensures others { work.new ≡ record work.old { w = work.new.w } }
 {
     let end = work.columns() + 1;
     for c in 1..end {
-        add_to_column(c, work)?;
+        add_to_column(rows, c, work)?;
     }
     Ok(())
 }
 
-/// The right side of the forces: `e[r]` is the negative of `g[r]` with the sum of the products of `Y[r]` and `z` added, from the first row on. A sum that is
-/// too large is refused as `Size` under `e[r]`. For all numbers within `Y`, `z` and `g` it lies in `e`. Takes no memory, and writes `e` alone.
-pub fn row_sides(work: &mut Work) -> Result<(), RowFault>
-    ensures values { OnOk result (HoldsRowSides work.old work.new) }
-    ensures refused { IfErr result (RefusesRowSides work.old) }
-    ensures encloses { OnOk result (EnclosesRowSides work.old work.new) }
+/// The right side of the forces of the first `rows` rows: `e[r]` is the negative of `g[r]` with the sum of the products of `Y[r]` and `z` added, from the first
+/// row on. A sum that is too large is refused as `Size` under `e[r]`. For all numbers within `Y`, `z` and `g` it lies in `e`. Takes no memory, and writes `e`
+/// alone.
+pub fn row_sides(rows: u32, work: &mut Work) -> Result<(), RowFault>
+    requires rows { rows ≤ work.old.rows }
+    ensures values { OnOk result (HoldsRowSides rows work.old work.new) }
+    ensures refused { IfErr result (RefusesRowSides rows work.old) }
+    ensures encloses { OnOk result (EnclosesRowSides rows work.old work.new) }
     ensures others { work.new ≡ record work.old { e = work.new.e } }
 {
     let _sizes = work.rows();
-    find_sides(work)
+    find_sides(rows, work)
 }
 
-/// The forces `lam` of the rows, by the factors `l` and `C` of their coupling and the right side `e`. From the first row on, `e[r]` times `l[q.r]` is taken
-/// from `e` of each later row `q`; then each `e[r]` is divided by `C[r]`; then, from the last row down, `lam[r]` is `e[r]`, less `l[q.r]` times the `lam` of
-/// each later row `q`, in their order (Featherstone, Rigid Body Dynamics Algorithms, chapter 8). The first row whose step is too large is refused as `Size`,
-/// under `e[r]` in the first two steps and `lam[r]` in the last. No pivot `C` may contain zero. What is found from all numbers within `l`, `C` and `e` lies
-/// in `lam`. Takes no memory, and writes `e` and `lam` alone.
-pub fn row_forces(work: &mut Work) -> Result<(), RowFault>
-    requires divisors { HoldsRowDivisors work.old }
-    ensures values { OnOk result (HoldsRowForces work.old work.new) }
-    ensures refused { IfErr result (RefusesRowForces work.old) }
-    ensures encloses { OnOk result (EnclosesRowForces work.old work.new) }
+/// The forces `lam` of the first `rows` rows, by the factors `l` and `C` of their coupling and the right side `e`. From the first row on, `e[r]` times `l[q.r]`
+/// is taken from `e` of each later row `q`; then each `e[r]` is divided by `C[r]`; then, from the last row down, `lam[r]` is `e[r]`, less `l[q.r]` times the
+/// `lam` of each later row `q`, in their order, and `e[r]` becomes it too (Featherstone, Rigid Body Dynamics Algorithms, chapter 8). The first row whose step
+/// is too large is refused as `Size`, under `e[r]` in the first two steps and `lam[r]` in the last. No pivot `C` may contain zero. What is found from all
+/// numbers within `l`, `C` and `e` lies in `lam`. Takes no memory, and writes `e` and `lam` alone.
+pub fn row_forces(rows: u32, work: &mut Work) -> Result<(), RowFault>
+    requires rows { rows ≤ work.old.rows }
+    requires divisors { HoldsRowDivisors rows work.old }
+    ensures values { OnOk result (HoldsRowForces rows work.old work.new) }
+    ensures refused { IfErr result (RefusesRowForces rows work.old) }
+    ensures encloses { OnOk result (EnclosesRowForces rows work.old work.new) }
     ensures others { work.new ≡ record work.old { e = work.new.e; lam = work.new.lam } }
 {
     let _sizes = work.rows();
-    find_all(work)
+    find_all(rows, work)
 }
 
-/// Adds to `w[c]` the sum over the rows of the products of `Y[r.c]` and `lam[r]`, from the first column on. A sum that is too large is refused as `Size`
-/// under `w[c]`. For all numbers within `Y`, `lam` and `w` it lies in the new `w`. Takes no memory, and writes `w` alone.
-pub fn add_row_forces(work: &mut Work) -> Result<(), RowFault>
-    ensures values { OnOk result (HoldsAddedForces work.old work.new) }
-    ensures refused { IfErr result (RefusesAddedForces work.old) }
-    ensures encloses { OnOk result (EnclosesAddedForces work.old work.new) }
+/// Adds to `w[c]` the sum over the first `rows` rows of the products of `Y[r.c]` and `lam[r]`, from the first column on. A sum that is too large is refused as
+/// `Size` under `w[c]`. For all numbers within `Y`, `lam` and `w` it lies in the new `w`. Takes no memory, and writes `w` alone.
+pub fn add_row_forces(rows: u32, work: &mut Work) -> Result<(), RowFault>
+    requires rows { rows ≤ work.old.rows }
+    ensures values { OnOk result (HoldsAddedForces rows work.old work.new) }
+    ensures refused { IfErr result (RefusesAddedForces rows work.old) }
+    ensures encloses { OnOk result (EnclosesAddedForces rows work.old work.new) }
     ensures others { work.new ≡ record work.old { w = work.new.w } }
 {
     let _sizes = work.columns();
-    add_to_columns(work)
+    add_to_columns(rows, work)
 }

@@ -115,12 +115,13 @@ fn reduce_row(r: u32, work: &mut Work) -> Result<(), RowFault>
 
 // The rows from the first on.
 #[tactic(auto, using(rb_sweep::proofs::SweepSteps::sweeps))]
-pub(crate) fn reduce_rows(work: &mut Work) -> Result<(), RowFault>
-    ensures exact { Answers result (rows_of work.old.up work.old.rows work.old.packed work.old.J (work.old.Y, work.old.Z)) (work.new.Y, work.new.Z) }
+pub(crate) fn reduce_rows(rows: u32, work: &mut Work) -> Result<(), RowFault>
+    requires rows { rows ≤ work.old.rows }
+    ensures exact { Answers result (rows_of work.old.up rows work.old.packed work.old.J (work.old.Y, work.old.Z)) (work.new.Y, work.new.Z) }
     ensures others { work.new ≡ record work.old { Y = work.new.Y; Z = work.new.Z } }
 {
-    let end = work.rows() + 1;
-    for r in 1..end {
+    let _sizes = work.rows();
+    for r in 1..rows + 1 {
         reduce_row(r, work)?;
     }
     Ok(())

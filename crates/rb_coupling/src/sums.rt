@@ -43,14 +43,15 @@ pub(crate) fn sum_of_row(work: &Work, r: u32) -> Result<Iv, NumFault>
     dot(&pairs[..columns as usize])
 }
 
-// The rows of Y at one column with lam.
+// So many rows of Y at one column with lam.
 #[tactic(auto, unfolding(crate::specs::Steps::pairs_of))]
-pub(crate) fn sum_of_column(work: &Work, c: u32) -> Result<Iv, NumFault>
+pub(crate) fn sum_of_column(rows: u32, work: &Work, c: u32) -> Result<Iv, NumFault>
+    requires rows { rows ≤ work.now.rows }
     requires column { c ≤ columns_of work.now }
-    ensures exact { result ≡ iv_dot (pairs_of (λ r. cell_at (columns_of work.now) work.now.Y r c) (number_at work.now.lam) work.now.rows) }
+    ensures exact { result ≡ iv_dot (pairs_of (λ r. cell_at (columns_of work.now) work.now.Y r c) (number_at work.now.lam) rows) }
     ensures size { IfErr result (λ e. e ≡ NumFault.Size) }
 {
-    let rows = work.rows();
+    let _sizes = work.rows();
     let mut pairs = [(Iv::ZERO, Iv::ZERO); 64];
     for r in 1..rows + 1 {
         pairs[r as usize - 1] = (work.Y(r, c), work.lam(r));
