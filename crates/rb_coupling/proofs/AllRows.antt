@@ -20,7 +20,7 @@ use Rattle.rb_coupling.proofs.Alone.{pick, pick_is, Fine, Apart, all_done, stopp
 use Rattle.rb_coupling.proofs.Lines.{keeps_over}
 use Rattle.rb_coupling.proofs.Reducing.{reduced_as, reduce_refused_as, divided_as, copied_beside, copy_is, copy_answers, reduced_beside, row_reduced, row_reduction_refused, divided_beside, row_divided, row_division_refused}
 
-module _ (up : List ℕ) (ascends : Ascends up) (table J : List Interval) (R : ℕ) where
+module _ (up : List ℕ) (ascends : Ascends up) (table J : List Interval) (room R : ℕ) (within : R ≤ room) where
   abbrev Two : Type 0
   Two = List Interval × List Interval
 
@@ -37,8 +37,8 @@ module _ (up : List ℕ) (ascends : Ascends up) (table J : List Interval) (R : �
   pivots c = entry_at up table c c
 
   pub record Room (s : Two) : Type 0 where
-    pub Y : Fits R (length up) s.0
-    pub Z : Fits R (length up) s.1
+    pub Y : Fits room (length up) s.0
+    pub Z : Fits room (length up) s.1
 
   pub record Alike (r : ℕ) (s t : Two) : Type 0 where
     pub Y_long : length s.0 ≡ length t.0
@@ -79,9 +79,9 @@ module _ (up : List ℕ) (ascends : Ascends up) (table J : List Interval) (R : �
   row_leaves : (q r : ℕ) (s t : Two) → r ≤ R → q ≢ r → row_step up table J r s ≡ Ok t → Alike q s t
   row_leaves q r s t l ne h =
       let p = stepped r s t h in
-      let a = copied_beside up R r l J s.0 p.copy p.copied in
-      let b = reduced_beside up R r l ascends table p.copy t.0 p.reduced in
-      let c = divided_beside up R r l ascends table t.0 s.1 t.1 p.divided in
+      let a = copied_beside up room r (omega arith) J s.0 p.copy p.copied in
+      let b = reduced_beside up room r (omega arith) ascends table p.copy t.0 p.reduced in
+      let c = divided_beside up room r (omega arith) ascends table t.0 s.1 t.1 p.divided in
       record {
         Y_long = a.long ∙ b.long;
         Z_long = c.long;
@@ -92,9 +92,9 @@ module _ (up : List ℕ) (ascends : Ascends up) (table J : List Interval) (R : �
   row_long : (r : ℕ) (s t : Two) → r ≤ R → row_step up table J r s ≡ Ok t → Room s → Room t
   row_long r s t l h f =
       let p = stepped r s t h in
-      let a = copied_beside up R r l J s.0 p.copy p.copied in
-      let b = reduced_beside up R r l ascends table p.copy t.0 p.reduced in
-      let c = divided_beside up R r l ascends table t.0 s.1 t.1 p.divided in
+      let a = copied_beside up room r (omega arith) J s.0 p.copy p.copied in
+      let b = reduced_beside up room r (omega arith) ascends table p.copy t.0 p.reduced in
+      let c = divided_beside up room r (omega arith) ascends table t.0 s.1 t.1 p.divided in
       record { Y = sym (a.long ∙ b.long) ∙ f.Y; Z = sym c.long ∙ f.Z }
 
   pub record Found (r : ℕ) (left : ℕ → ℕ → Interval) (y z : ℕ → Interval) : Type 0 where
@@ -104,14 +104,14 @@ module _ (up : List ℕ) (ascends : Ascends up) (table J : List Interval) (R : �
   row_found : (r : ℕ) (s t : Two) → r ≤ R → row_step up table J r s ≡ Ok t → Room s → (left : ℕ → ℕ → Interval) × Found r left (cell t.0 r) (cell t.1 r)
   row_found r s t l h f =
       let p = stepped r s t h in
-      let a = copied_beside up R r l J s.0 p.copy p.copied in
-      let b = row_reduced up R r l ascends table p.copy t.0 p.reduced (sym a.long ∙ f.Y) in (
+      let a = copied_beside up room r (omega arith) J s.0 p.copy p.copied in
+      let b = row_reduced up room r (omega arith) ascends table p.copy t.0 p.reduced (sym a.long ∙ f.Y) in (
         b.0,
         record {
           reduced =
               reduced_as (length up) (above up) factors (cell p.copy r) (cell J r) b.0 (cell t.0 r) (cell t.0 r)
-              (λ c i. copy_is up R r l J s.0 p.copy p.copied f.Y c i) (λ c i. refl) b.1;
-          divided = row_divided up R r l ascends table t.0 s.1 t.1 p.divided f.Z;
+              (λ c i. copy_is up room r (omega arith) J s.0 p.copy p.copied f.Y c i) (λ c i. refl) b.1;
+          divided = row_divided up room r (omega arith) ascends table t.0 s.1 t.1 p.divided f.Z;
         },
       )
 
@@ -120,7 +120,7 @@ module _ (up : List ℕ) (ascends : Ascends up) (table J : List Interval) (R : �
   unfolding row_step
   row_refused r s e l divisors h f =
       elim (then-err (copied_of up J r s.0) (λ c. reduced_of up table r c >>= λ Y. divided_of up table Y r s.1 >>= λ Z. ended Y Z) e h) [
-        | inl k ↦ absurd (copy_answers up R r l J s.0 e k)
+        | inl k ↦ absurd (copy_answers up room r (omega arith) J s.0 e k)
         | inr a ↦ behind a.0 a.1 a.2
       ]
     where
@@ -129,13 +129,13 @@ module _ (up : List ℕ) (ascends : Ascends up) (table J : List Interval) (R : �
       last copy Y c d h =
           elim (then-err (divided_of up table Y r s.1) (λ Z. ended Y Z) e h) [
             | inl k ↦
-                let a = copied_beside up R r l J s.0 copy c in
-                let b = row_reduced up R r l ascends table copy Y d (sym a.long ∙ f.Y) in
-                let q = row_division_refused up R r l ascends table Y s.1 e k divisors in
+                let a = copied_beside up room r (omega arith) J s.0 copy c in
+                let b = row_reduced up room r (omega arith) ascends table copy Y d (sym a.long ∙ f.Y) in
+                let q = row_division_refused up room r (omega arith) ascends table Y s.1 e k divisors in
                 subst (λ x. IsRowRefused (length up) (above up) factors pivots (cell J r) r x) (sym q.2)
                 (by_divide b.0 (cell Y r) q.0
                 (reduced_as (length up) (above up) factors (cell copy r) (cell J r) b.0 (cell Y r) (cell Y r)
-                (λ c' i. copy_is up R r l J s.0 copy c f.Y c' i) (λ c' i. refl) b.1) q.1)
+                (λ c' i. copy_is up room r (omega arith) J s.0 copy c f.Y c' i) (λ c' i. refl) b.1) q.1)
             | inr p ↦ absurd cc
           ]
 
@@ -144,10 +144,10 @@ module _ (up : List ℕ) (ascends : Ascends up) (table J : List Interval) (R : �
       behind copy c h =
           elim (then-err (reduced_of up table r copy) (λ Y. divided_of up table Y r s.1 >>= λ Z. ended Y Z) e h) [
             | inl k ↦
-                let a = copied_beside up R r l J s.0 copy c in
-                let q = row_reduction_refused up R r l ascends table copy e k (sym a.long ∙ f.Y) in
+                let a = copied_beside up room r (omega arith) J s.0 copy c in
+                let q = row_reduction_refused up room r (omega arith) ascends table copy e k (sym a.long ∙ f.Y) in
                 subst (λ x. IsRowRefused (length up) (above up) factors pivots (cell J r) r x) (sym q.2)
-                (by_reduce q.0 (reduce_refused_as (length up) (above up) factors (cell copy r) (cell J r) q.0 (λ d i. copy_is up R r l J s.0 copy c f.Y d i) q.1))
+                (by_reduce q.0 (reduce_refused_as (length up) (above up) factors (cell copy r) (cell J r) q.0 (λ d i. copy_is up room r (omega arith) J s.0 copy c f.Y d i) q.1))
             | inr p ↦ last copy p.0 c p.1 p.2
           ]
 

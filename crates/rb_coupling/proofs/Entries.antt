@@ -30,7 +30,7 @@ told_same r q h = grind (arith, nat_tests)
 told_other : (r q : ℕ) → (r == q) ≡ false → r ≢ q
 told_other r q h = grind (arith, nat_tests)
 
-module _ (n R : ℕ) (mus : List Interval) (Y Z : List Interval) where
+module _ (n room R : ℕ) (within : R ≤ room) (mus : List Interval) (Y Z : List Interval) where
   -- ---- one entry
   abbrev products : ℕ → ℕ → Result Interval NumFault
   products q r = iv_dot (pairs_of (cell_at n Y r) (cell_at n Z q) n)
@@ -70,40 +70,40 @@ module _ (n R : ℕ) (mus : List Interval) (Y Z : List Interval) where
   -- ---- the entries of a row
   pub record Alike (q r : ℕ) (s t : List Interval) : Type 0 where
     pub long : length s ≡ length t
-    pub same : cell_at R s q r ≡ cell_at R t q r
+    pub same : cell_at room s q r ≡ cell_at room t q r
 
   alike_both : (q r : ℕ) (s t u : List Interval) → Alike q r s t → Alike q r t u → Alike q r s u
   alike_both q r s t u h k = record { long = h.long ∙ k.long; same = h.same ∙ k.same }
 
-  put_told : (q r : ℕ) (s t : List Interval) → couple_step n R mus Y Z q r s ≡ Ok t
-      → (v : Interval) × (entry_of n mus Y Z q r ≡ Ok v) × (slice_set s (place_of R q r) v ≡ t)
+  put_told : (q r : ℕ) (s t : List Interval) → couple_step n room mus Y Z q r s ≡ Ok t
+      → (v : Interval) × (entry_of n mus Y Z q r ≡ Ok v) × (slice_set s (place_of room q r) v ≡ t)
   unfolding couple_step
-  put_told q r s t h = made (two K.G q r) (entry_of n mus Y Z q r) (λ v. slice_set s (place_of R q r) v) t h
+  put_told q r s t h = made (two K.G q r) (entry_of n mus Y Z q r) (λ v. slice_set s (place_of room q r) v) t h
 
-  put_refused : (q r : ℕ) (s : List Interval) (e : RowFault) → couple_step n R mus Y Z q r s ≡ Err e
+  put_refused : (q r : ℕ) (s : List Interval) (e : RowFault) → couple_step n room mus Y Z q r s ≡ Err e
       → (f : NumFault) × (entry_of n mus Y Z q r ≡ Err f) × (Size (two K.G q r) ≡ e)
   unfolding couple_step
-  put_refused q r s e h = not_made (two K.G q r) (entry_of n mus Y Z q r) (λ v. slice_set s (place_of R q r) v) e h
+  put_refused q r s e h = not_made (two K.G q r) (entry_of n mus Y Z q r) (λ v. slice_set s (place_of room q r) v) e h
 
-  put_apart : (q p r t : ℕ) (u v : List Interval) → r ≤ R → t ≤ R → (q ≡ p → r ≡ t → ⊥) → couple_step n R mus Y Z p t u ≡ Ok v → Alike q r u v
+  put_apart : (q p r t : ℕ) (u v : List Interval) → r ≤ R → t ≤ R → (q ≡ p → r ≡ t → ⊥) → couple_step n room mus Y Z p t u ≡ Ok v → Alike q r u v
   put_apart q p r t u v l k differ h =
       let d = put_told p t u v h in
       subst (λ w. Alike q r u w) d.2
-      (record { long = long_put u (place_of R p t) d.0; same = sym (cell_other R u p t d.0 q r k l differ) })
+      (record { long = long_put u (place_of room p t) d.0; same = sym (cell_other room u p t d.0 q r (omega arith) (omega arith) differ) })
 
-  put_there : (q r : ℕ) (u v : List Interval) → q ≤ R → r ≤ R → r ≤ q → Fits R R u → couple_step n R mus Y Z q r u ≡ Ok v → IsOne q r (cell_at R v q r)
+  put_there : (q r : ℕ) (u v : List Interval) → q ≤ R → r ≤ R → r ≤ q → Fits room room u → couple_step n room mus Y Z q r u ≡ Ok v → IsOne q r (cell_at room v q r)
   put_there q r u v l k j fit h =
       let d = put_told q r u v h in
-      subst (λ w. IsOne q r (cell_at R w q r)) d.2 (subst (λ x. IsOne q r x) (sym (cell_same R R u q r d.0 l k fit)) (entry_is q r d.0 j d.1))
+      subst (λ w. IsOne q r (cell_at room w q r)) d.2 (subst (λ x. IsOne q r x) (sym (cell_same room room u q r d.0 (omega arith) (omega arith) fit)) (entry_is q r d.0 j d.1))
 
-  row_apart : (q : ℕ) → q ≤ R → Apart (couple_step n R mus Y Z q) (Alike q) (λ r s. record { long = refl; same = refl }) (alike_both q) 1 (q + 1)
+  row_apart : (q : ℕ) → q ≤ R → Apart (couple_step n room mus Y Z q) (Alike q) (λ r s. record { long = refl; same = refl }) (alike_both q) 1 (q + 1)
   row_apart q l r t u v a b c d ne h = put_apart q q r t u v (omega arith) (omega arith) (λ e f. ne f) h
 
-  row_done : (q : ℕ) → q ≤ R → (s t : List Interval) → couple_row_step n R mus Y Z q s ≡ Ok t → Fits R R s → (r : ℕ) → IsRow q r → IsOne q r (cell_at R t q r)
+  row_done : (q : ℕ) → q ≤ R → (s t : List Interval) → couple_row_step n room mus Y Z q s ≡ Ok t → Fits room room s → (r : ℕ) → IsRow q r → IsOne q r (cell_at room t q r)
   unfolding couple_row_step
   row_done q l s t h fit r i =
       let to : r ≤ q = i.to in
-      let d = all_done (couple_step n R mus Y Z q) (Alike q) (λ r s. record { long = refl; same = refl }) (alike_both q) 1 (q + 1) (row_apart q l) s t h r i.from (omega arith) in
+      let d = all_done (couple_step n room mus Y Z q) (Alike q) (λ r s. record { long = refl; same = refl }) (alike_both q) 1 (q + 1) (row_apart q l) s t h r i.from (omega arith) in
       subst (λ x. IsOne q r x) d.stays.same
       (put_there q r d.fine.before d.fine.behind l (omega arith) to (sym d.fine.same.long ∙ fit) d.fine.does)
 
@@ -115,10 +115,10 @@ module _ (n R : ℕ) (mus : List Interval) (Y Z : List Interval) where
     pub refused : IsEntryRefused n (cell_at n Y) (cell_at n Z) (of_row mus) q at
     pub named : e ≡ Size (two K.G q at)
 
-  row_refused : (q : ℕ) → q ≤ R → (s : List Interval) (e : RowFault) → couple_row_step n R mus Y Z q s ≡ Err e → RowStop q e
+  row_refused : (q : ℕ) → q ≤ R → (s : List Interval) (e : RowFault) → couple_row_step n room mus Y Z q s ≡ Err e → RowStop q e
   unfolding couple_row_step
   row_refused q l s e h =
-      let d = stopped (couple_step n R mus Y Z q) (Alike q) (λ r s. record { long = refl; same = refl }) (alike_both q) 1 (q + 1) (row_apart q l) s e h in
+      let d = stopped (couple_step n room mus Y Z q) (Alike q) (λ r s. record { long = refl; same = refl }) (alike_both q) 1 (q + 1) (row_apart q l) s e h in
       let high : d.at < q + 1 = d.high in
       let p = put_refused q d.at d.before e d.refused in
       record {
@@ -135,15 +135,15 @@ module _ (n R : ℕ) (mus : List Interval) (Y Z : List Interval) where
   -- ---- the rows
   pub record RowAlike (q : ℕ) (s t : List Interval) : Type 0 where
     pub long : length s ≡ length t
-    pub same : (r : ℕ) → r ≤ R → cell_at R s q r ≡ cell_at R t q r
+    pub same : (r : ℕ) → r ≤ R → cell_at room s q r ≡ cell_at room t q r
 
   row_both : (q : ℕ) (s t u : List Interval) → RowAlike q s t → RowAlike q t u → RowAlike q s u
   row_both q s t u h k = record { long = h.long ∙ k.long; same = λ r l. h.same r l ∙ k.same r l }
 
-  row_leaves : (q p : ℕ) (s t : List Interval) → p ≤ R → q ≢ p → couple_row_step n R mus Y Z p s ≡ Ok t → RowAlike q s t
+  row_leaves : (q p : ℕ) (s t : List Interval) → p ≤ R → q ≢ p → couple_row_step n room mus Y Z p s ≡ Ok t → RowAlike q s t
   unfolding couple_row_step
   row_leaves q p s t l ne h =
-      keeps_over (couple_step n R mus Y Z p) (RowAlike q) (λ s. record { long = refl; same = λ r l. refl }) (row_both q) (upward 1 (p + 1))
+      keeps_over (couple_step n room mus Y Z p) (RowAlike q) (λ s. record { long = refl; same = λ r l. refl }) (row_both q) (upward 1 (p + 1))
       (λ t u v m k.
       let range = in_upward 1 (p + 1) t m in
       record {
@@ -151,14 +151,14 @@ module _ (n R : ℕ) (mus : List Interval) (Y Z : List Interval) where
         same = λ r j. (put_apart q p r t u v j (omega (arith, range.1)) (λ e f. ne e) k).same;
       }) s t h
 
-  rows_apart : Apart (couple_row_step n R mus Y Z) RowAlike (λ q s. record { long = refl; same = λ r l. refl }) row_both 1 (R + 1)
+  rows_apart : Apart (couple_row_step n room mus Y Z) RowAlike (λ q s. record { long = refl; same = λ r l. refl }) row_both 1 (R + 1)
   rows_apart q p s t a b c d ne h = row_leaves q p s t (omega arith) ne h
 
-  coupled_entries : (s t : List Interval) → coupled_of n R mus Y Z s ≡ Ok t → Fits R R s → (q r : ℕ) → IsRow R q → IsRow q r → IsOne q r (cell_at R t q r)
+  coupled_entries : (s t : List Interval) → coupled_of n room R mus Y Z s ≡ Ok t → Fits room room s → (q r : ℕ) → IsRow R q → IsRow q r → IsOne q r (cell_at room t q r)
   coupled_entries s t h fit q r i j =
       let to : q ≤ R = i.to in
       let below : r ≤ q = j.to in
-      let d = all_done (couple_row_step n R mus Y Z) RowAlike (λ q s. record { long = refl; same = λ r l. refl }) row_both 1 (R + 1) rows_apart s t h q i.from (omega arith) in
+      let d = all_done (couple_row_step n room mus Y Z) RowAlike (λ q s. record { long = refl; same = λ r l. refl }) row_both 1 (R + 1) rows_apart s t h q i.from (omega arith) in
       subst (λ x. IsOne q r x) (d.stays.same r (omega arith))
       (row_done q to d.fine.before d.fine.behind d.fine.does (sym d.fine.same.long ∙ fit) r j)
 
@@ -171,24 +171,24 @@ module _ (n R : ℕ) (mus : List Interval) (Y Z : List Interval) where
   own_told r v (of_one alone e h k) = (alone, h, k)
 
   -- the entries are the coupling
-  pub coupled : (up : ℕ → ℕ) (s t : List Interval) → coupled_of n R mus Y Z s ≡ Ok t → Fits R R s
-      → (alone : ℕ → Interval) × AreCoupled interval_row_steps n up R (cell_at n Y) (cell_at n Z) (of_row mus) alone (cell_at R t)
+  pub coupled : (up : ℕ → ℕ) (s t : List Interval) → coupled_of n room R mus Y Z s ≡ Ok t → Fits room room s
+      → (alone : ℕ → Interval) × AreCoupled interval_row_steps n up R (cell_at n Y) (cell_at n Z) (of_row mus) alone (cell_at room t)
   coupled up s t h fit =
-      let own : (r : ℕ) → IsRow R r → (alone : Interval) × (products r r ≡ Ok alone) × (iv_add alone (of_row mus r) ≡ Ok (cell_at R t r r)) =
-      λ r i. own_told r (cell_at R t r r) (coupled_entries s t h fit r r i (record { from = i.from; to = omega arith })) in
-      let P : ℕ → Interval → Type 0 = λ r alone. (products r r ≡ Ok alone) × (iv_add alone (of_row mus r) ≡ Ok (cell_at R t r r)) in
+      let own : (r : ℕ) → IsRow R r → (alone : Interval) × (products r r ≡ Ok alone) × (iv_add alone (of_row mus r) ≡ Ok (cell_at room t r r)) =
+      λ r i. own_told r (cell_at room t r r) (coupled_entries s t h fit r r i (record { from = i.from; to = omega arith })) in
+      let P : ℕ → Interval → Type 0 = λ r alone. (products r r ≡ Ok alone) × (iv_add alone (of_row mus r) ≡ Ok (cell_at room t r r)) in
       let each : (r : ℕ) → IsRow R r → (alone : Interval) × P r alone = λ r i. let o = own r i in (o.0, (o.1, o.2)) in (
         pick zero_interval P R each,
         record {
-          pairs = λ q r i j l. pair_told q r (cell_at R t q r) l (coupled_entries s t h fit q r i (record { from = j.from; to = omega arith }));
+          pairs = λ q r i j l. pair_told q r (cell_at room t q r) l (coupled_entries s t h fit q r i (record { from = j.from; to = omega arith }));
           own = λ r i. (pick_is zero_interval P R each r i).0;
           compliant = λ r i. (pick_is zero_interval P R each r i).1;
         },
       )
 
-  pub coupled_long : (s t : List Interval) → coupled_of n R mus Y Z s ≡ Ok t → length s ≡ length t
+  pub coupled_long : (s t : List Interval) → coupled_of n room R mus Y Z s ≡ Ok t → length s ≡ length t
   coupled_long s t h =
-      keeps_over (couple_row_step n R mus Y Z) (λ s t. length s ≡ length t) (λ s. refl) (λ s t u h k. h ∙ k) (upward 1 (R + 1))
+      keeps_over (couple_row_step n room mus Y Z) (λ s t. length s ≡ length t) (λ s. refl) (λ s t u h k. h ∙ k) (upward 1 (R + 1))
       (λ q u v m k. let range = in_upward 1 (R + 1) q m in (row_leaves 0 q u v (omega (arith, range.1)) (λ e. absurd (omega (arith, range.0))) k).long) s t h
 
   pub record CoupleStop (e : RowFault) : Type 0 where
@@ -201,9 +201,9 @@ module _ (n R : ℕ) (mus : List Interval) (Y Z : List Interval) where
     pub named : e ≡ Size (two K.G later earlier)
 
   -- or one is refused
-  pub coupling_refused : (s : List Interval) (e : RowFault) → coupled_of n R mus Y Z s ≡ Err e → Fits R R s → CoupleStop e
+  pub coupling_refused : (s : List Interval) (e : RowFault) → coupled_of n room R mus Y Z s ≡ Err e → Fits room room s → CoupleStop e
   coupling_refused s e h fit =
-      let d = stopped (couple_row_step n R mus Y Z) RowAlike (λ q s. record { long = refl; same = λ r l. refl }) row_both 1 (R + 1) rows_apart s e h in
+      let d = stopped (couple_row_step n room mus Y Z) RowAlike (λ q s. record { long = refl; same = λ r l. refl }) row_both 1 (R + 1) rows_apart s e h in
       let high : d.at < R + 1 = d.high in
       let r : RowStop d.at e = row_refused d.at (omega arith) d.before e d.refused in
       record {
@@ -214,7 +214,7 @@ module _ (n R : ℕ) (mus : List Interval) (Y Z : List Interval) where
         until = λ p t i j b. elim b [
           | inl l ↦
               let f = d.until p i.from l in
-              (cell_at R f.behind p t, row_done p i.to f.before f.behind f.does (sym f.same.long ∙ fit) t j)
+              (cell_at room f.behind p t, row_done p i.to f.before f.behind f.does (sym f.same.long ∙ fit) t j)
           | inr q ↦ subst (λ m. (v : Interval) × IsOne m t v) (sym q.0) (r.until t (subst (λ m. IsRow m t) q.0 j) q.1)
         ];
         refused = r.refused;

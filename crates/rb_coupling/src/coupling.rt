@@ -84,7 +84,7 @@ fn couple_rows(rows: u32, compliances: &[Iv], work: &mut Work) -> Result<(), Row
 fn couple_all(rows: u32, compliances: &[Iv], work: &mut Work) -> Result<(), RowFault>
     requires rows { rows ≤ work.old.rows }
     requires compliances { length compliances.now ≡ rows }
-    ensures exact { Answers result (couple_of work.old.up work.old.rows rows work.old.packed work.old.J compliances.now (work.old.Y, work.old.Z, work.old.pairs)) (work.new.Y, work.new.Z, work.new.pairs) }
+    ensures exact { Answers result (couple_of work.old.up work.old.rows (length compliances.now) work.old.packed work.old.J compliances.now (work.old.Y, work.old.Z, work.old.pairs)) (work.new.Y, work.new.Z, work.new.pairs) }
     ensures others { work.new ≡ record work.old { Y = work.new.Y; Z = work.new.Z; pairs = work.new.pairs } }
 {
     reduce_rows(rows, work)?;

@@ -6,5 +6,5 @@ use Rattle.rb_coupling.proofs.eliminate.eliminate_rows.Given as goal
 abbrev pub invariant-loop-r : goal.invariant-loop-r
 invariant-loop-r l = record {
   others : l.work ≡ record l.fn.work { pairs = l.work.pairs };
-  rest : sweep (eliminate_step l.fn.work.rows) (upward l.r (l.fn.work.rows + 1)) l.work.pairs ≡ eliminated_of l.fn.work.rows l.fn.work.pairs;
+  rest : sweep (eliminate_step l.fn.work.rows l.rows) (upward l.r (l.rows + 1)) l.work.pairs ≡ eliminated_of l.fn.work.rows l.rows l.fn.work.pairs;
 }

@@ -6,5 +6,5 @@ use Rattle.rb_coupling.proofs.forces.find_sides.Given as goal
 abbrev pub invariant-loop-r : goal.invariant-loop-r
 invariant-loop-r l = record {
   others : l.work ≡ record l.fn.work { e = l.work.e };
-  rest : sweep (side_step (length l.fn.work.up) l.fn.work.Y l.fn.work.z l.fn.work.g) (upward l.r (l.fn.work.rows + 1)) l.work.e ≡ sides_of (length l.fn.work.up) l.fn.work.rows l.fn.work.Y l.fn.work.z l.fn.work.g l.fn.work.e;
+  rest : sweep (side_step (length l.fn.work.up) l.fn.work.Y l.fn.work.z l.fn.work.g) (upward l.r (l.rows + 1)) l.work.e ≡ sides_of (length l.fn.work.up) l.rows l.fn.work.Y l.fn.work.z l.fn.work.g l.fn.work.e;
 }
