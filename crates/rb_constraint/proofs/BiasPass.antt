@@ -52,7 +52,7 @@ g_reads k r s t h first second =
     rw (h, p.0, p.1, p.2, q.0, q.1, q.2) refl
 
 module _ (tree : Tree) (k : Constraints Interval) (fit : RowsFit (shape_of tree) k) where
-  inside : (extent : Extent) → extent.rows ≡ k.rows → (m : Place) → Own k m → Inside extent m
+  inside : (extent : Extent) → k.rows ≤ extent.rows → (m : Place) → Own k m → Inside extent m
   inside extent e (g_of r) h = let to = h.to in omega arith
   inside extent e _ h = absurd h
 
@@ -82,7 +82,7 @@ module _ (tree : Tree) (k : Constraints Interval) (fit : RowsFit (shape_of tree)
   reading s t h (K_of q) r = h (K_of q) r
   reading s t h _ r = absurd r
 
-  pub is_call : (extent : Extent) → extent.rows ≡ k.rows → Ascends extent.up → IsCall (call tree k extent)
+  pub is_call : (extent : Extent) → k.rows ≤ extent.rows → Ascends extent.up → IsCall (call tree k extent)
   unfolding bias_step
   is_call extent e ascends = record {
     ascends = ascends;
@@ -104,11 +104,11 @@ module _ (tree : Tree) (k : Constraints Interval) (fit : RowsFit (shape_of tree)
   holds w h _ has = absurd has
 
   -- ---- what a call leaves
-  pub bias_found : (w t : View) → IsSized w → w.rows ≡ k.rows → bias_of k w ≡ Ok t → AreBias k t
+  pub bias_found : (w t : View) → IsSized w → k.rows ≤ w.rows → bias_of k w ≡ Ok t → AreBias k t
   bias_found w t sized e r =
       are_bias t (found _ _ (ordered (call tree k (extent_of w)) (is_call (extent_of w) e sized.extent.ascends)) w t (room_for w (extent_of w) sized refl) r).holds
 
-  pub bias_refused : (w : View) (e : RowFault) → IsSized w → w.rows ≡ k.rows → bias_of k w ≡ Err e → IsBiasRefused tree k w e
+  pub bias_refused : (w : View) (e : RowFault) → IsSized w → k.rows ≤ w.rows → bias_of k w ≡ Err e → IsBiasRefused tree k w e
   bias_refused w e sized is r =
       let h = refusal _ _ (ordered (call tree k (extent_of w)) (is_call (extent_of w) is sized.extent.ascends)) w e (room_for w (extent_of w) sized refl) r in
       record {
@@ -134,7 +134,7 @@ module _ (tree : Tree) (k : Constraints Interval) (fit : RowsFit (shape_of tree)
   some_extent = record { bodies = length tree.bodies; full = 0; up = []; rows = k.rows }
 
   some_call : IsCall (call tree k some_extent)
-  some_call = is_call some_extent refl (λ c low high. absurd (omega arith))
+  some_call = is_call some_extent (omega arith) (λ c low high. absurd (omega arith))
 
   pub one_answer : BiasHasOneAnswer tree k
   one_answer = record {

@@ -120,7 +120,7 @@ call tree k extent = record {
 pub record HasRoom (tree : Tree) (k : Constraints Interval) (extent : Extent) : Type 0 where
   pub bodies : extent.bodies ≡ length tree.bodies
   pub columns : length extent.up ≡ column_count tree.bodies
-  pub rows : extent.rows ≡ k.rows
+  pub rows : k.rows ≤ extent.rows
   pub ascends : Ascends extent.up
 
 module _ (tree : Tree) (k : Constraints Interval) (kept : AreBodies tree.bodies) (fit : RowsFit (shape_of tree) k) where
@@ -272,14 +272,14 @@ module _ (tree : Tree) (k : Constraints Interval) (kept : AreBodies tree.bodies)
   holds w h _ has = absurd has
 
   -- ---- what a call leaves
-  pub room_of : (w : View) → IsSized w → IsFor tree w → w.rows ≡ k.rows → HasRoom tree k (extent_of w)
+  pub room_of : (w : View) → IsSized w → IsFor tree w → k.rows ≤ w.rows → HasRoom tree k (extent_of w)
   room_of w sized is rows = record { bodies = is.bodies; columns = is.up.count; rows = rows; ascends = sized.extent.ascends }
 
-  pub rows_found : (w t : View) → IsSized w → IsFor tree w → w.rows ≡ k.rows → fills_of tree k w ≡ Ok t → AreRows tree k t
+  pub rows_found : (w t : View) → IsSized w → IsFor tree w → k.rows ≤ w.rows → fills_of tree k w ≡ Ok t → AreRows tree k t
   rows_found w t sized is rows e =
       are_rows t (found _ _ (ordered (call tree k (extent_of w)) (is_call (extent_of w) (room_of w sized is rows))) w t (room_for w (extent_of w) sized refl) e).holds
 
-  pub rows_refused : (w : View) (e : RowFault) → IsSized w → IsFor tree w → w.rows ≡ k.rows → fills_of tree k w ≡ Err e → IsRowRefused tree k w e
+  pub rows_refused : (w : View) (e : RowFault) → IsSized w → IsFor tree w → k.rows ≤ w.rows → fills_of tree k w ≡ Err e → IsRowRefused tree k w e
   rows_refused w e sized is rows r =
       let h = refusal _ _ (ordered (call tree k (extent_of w)) (is_call (extent_of w) (room_of w sized is rows))) w e (room_for w (extent_of w) sized refl) r in
       record { values = h.reached; places = λ i has. ap (λ (u : View). X_at u i) h.keeps; first = h.first }
@@ -301,7 +301,7 @@ module _ (tree : Tree) (k : Constraints Interval) (kept : AreBodies tree.bodies)
   some_call : IsCall (call tree k some_extent)
   some_call =
       is_call some_extent
-      (record { bodies = refl; columns = length-replicate (column_count tree.bodies) 0; rows = refl; ascends = λ c low high. zeros_ascend (column_count tree.bodies) c low })
+      (record { bodies = refl; columns = length-replicate (column_count tree.bodies) 0; rows = omega arith; ascends = λ c low high. zeros_ascend (column_count tree.bodies) c low })
 
   values_same : (u w : View) → SamePlaces tree u w → AreRows tree k u → AreRows tree k w → (m : Place) → Own tree k m → look m u ≡ look m w
   values_same u w same hu hw = same_values _ _ (ordered (call tree k some_extent) some_call) u w (λ g. given u w same g.0 g.1) (holds u hu) (holds w hw)

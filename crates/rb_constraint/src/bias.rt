@@ -97,7 +97,7 @@ fn put_bias(cons: &Constraints, r: u32, work: &mut Work) -> Result<(), RowFault>
 #[tactic(auto, using(rb_sweep::proofs::SweepSteps::sweeps))]
 fn sweep_bias(robot: &Robot, cons: &Constraints, work: &mut Work) -> Result<(), RowFault>
     requires bodies { work.old.bodies ≡ length robot.now.bodies }
-    requires rows { work.old.rows ≡ (constraints_of cons.now).rows }
+    requires rows { (constraints_of cons.now).rows ≤ work.old.rows }
     requires fit { RowsFit (shape_of robot.now) (constraints_of cons.now) }
     ensures exact { Answers result (bias_of (constraints_of cons.now) work.old) work.new }
     ensures others { work.new ≡ record work.old { g = work.new.g } }
@@ -115,7 +115,7 @@ fn sweep_bias(robot: &Robot, cons: &Constraints, work: &mut Work) -> Result<(), 
 /// A refusal is that of the first row that is refused, and bears `Size` (Featherstone, Rigid Body Dynamics Algorithms, chapter 8).
 pub fn fill_bias(robot: &Robot, cons: &Constraints, work: &mut Work) -> Result<(), RowFault>
     requires room { IsFor robot.now work.old }
-    requires rows { work.old.rows ≡ (constraints_of cons.now).rows }
+    requires rows { (constraints_of cons.now).rows ≤ work.old.rows }
     requires fit { RowsFit (shape_of robot.now) (constraints_of cons.now) }
 
     // each value that the work holds is what its rule gives from the values that the work holds

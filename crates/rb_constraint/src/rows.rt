@@ -316,7 +316,7 @@ fn put_row(robot: &Robot, cons: &Constraints, r: u32, work: &mut Work) -> Result
 // The sweep over the rows.
 #[tactic(auto, using(rb_sweep::proofs::SweepSteps::sweeps))]
 fn sweep_rows(robot: &Robot, cons: &Constraints, work: &mut Work) -> Result<(), RowFault>
-    requires rows { work.old.rows ≡ (constraints_of cons.now).rows }
+    requires rows { (constraints_of cons.now).rows ≤ work.old.rows }
     requires bodies { work.old.bodies ≡ length robot.now.bodies }
     requires columns { length work.old.up ≡ column_count robot.now.bodies }
     requires fit { RowsFit (shape_of robot.now) (constraints_of cons.now) }
@@ -333,7 +333,7 @@ fn sweep_rows(robot: &Robot, cons: &Constraints, work: &mut Work) -> Result<(), 
 // One after the other.
 fn fills(robot: &Robot, cons: &Constraints, work: &mut Work) -> Result<(), RowFault>
     requires room { IsFor robot.now work.old }
-    requires rows { work.old.rows ≡ (constraints_of cons.now).rows }
+    requires rows { (constraints_of cons.now).rows ≤ work.old.rows }
     requires fit { RowsFit (shape_of robot.now) (constraints_of cons.now) }
     ensures exact { Answers result (fills_of robot.now (constraints_of cons.now) work.old) work.new }
     ensures others { work.new ≡ record work.old { O = work.new.O; K = work.new.K; J = work.new.J } }
@@ -349,7 +349,7 @@ fn fills(robot: &Robot, cons: &Constraints, work: &mut Work) -> Result<(), RowFa
 /// (Featherstone, Rigid Body Dynamics Algorithms, chapter 8).
 pub fn fill_rows(robot: &Robot, cons: &Constraints, work: &mut Work) -> Result<(), RowFault>
     requires room { IsFor robot.now work.old }
-    requires rows { work.old.rows ≡ (constraints_of cons.now).rows }
+    requires rows { (constraints_of cons.now).rows ≤ work.old.rows }
     requires fit { RowsFit (shape_of robot.now) (constraints_of cons.now) }
 
     // each value that the work holds is what its rule gives from the values that the work holds
