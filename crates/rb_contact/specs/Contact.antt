@@ -38,10 +38,10 @@ compliances k r = (k.numbers r).compliance
 pub record AreConstrained (tree : Tree) (row : Row) (k : Constraints Interval) (w : View) : Type 0 where
   pub factored : AreFactored tree row w
   pub driving : AreDriving tree row w
-  pub count : w.rows ≡ k.rows
+  pub count : k.rows ≤ w.rows
   pub rows : AreRows tree k w
   pub bias : AreBias k w
-  pub coupling : HoldsCoupling w w (compliances k)
+  pub coupling : HoldsCoupling k.rows w w (compliances k)
 
 -- what the factors find in their first two steps, without forces of the rows
 pub record AreFree (tree : Tree) (row : Row) (k : Constraints Interval) (w : View) : Type 0 where
@@ -53,15 +53,15 @@ pub record AreFree (tree : Tree) (row : Row) (k : Constraints Interval) (w : Vie
 pub record AreForced (tree : Tree) (row : Row) (k : Constraints Interval) (w : View) : Type 0 where
   pub free : AreFree tree row k w
   pub sides : List Interval
-  pub row_sides : HoldsRowSides w (record w { e = sides })
-  pub row_forces : HoldsRowForces (record w { e = sides }) w
+  pub row_sides : HoldsRowSides k.rows w (record w { e = sides })
+  pub row_forces : HoldsRowForces k.rows (record w { e = sides }) w
 
 -- and the accelerations, with what the forces add; right and quotients are what w and z were without them
 pub record AreContact (tree : Tree) (row : Row) (k : Constraints Interval) (w : View) : Type 0 where
   pub right : List Interval
   pub quotients : List Interval
   pub forced : AreForced tree row k (record w { w = right; z = quotients })
-  pub added : HoldsAddedForces (record w { w = right }) w
+  pub added : HoldsAddedForces k.rows (record w { w = right }) w
   pub divided : HoldsDivided w w
   pub substituted : HoldsSubstituted w w
 
@@ -75,13 +75,13 @@ pub data IsContactRefused (tree : Tree) (row : Row) (k : Constraints Interval) (
       IsCoupleRefused (columns_of w) (above w.up) k.rows (L_at w) (D_at w) (J_at w) (compliances k) e → IsContactRefused tree row k e
   in_reduction : (w : View) → AreConstrained tree row k w → RefusesReduce (record w { w = w.k }) e → IsContactRefused tree row k e
   in_division : (w : View) → AreConstrained tree row k w → HoldsReduced (record w { w = w.k }) w → RefusesDivide w e → IsContactRefused tree row k e
-  in_sides : (w : View) → AreFree tree row k w → RefusesRowSides w e → IsContactRefused tree row k e
-  in_forces : (w : View) → AreFree tree row k w → HoldsRowSides w w → RefusesRowForces w e → IsContactRefused tree row k e
-  in_addition : (w : View) → AreForced tree row k w → RefusesAddedForces w e → IsContactRefused tree row k e
-  in_second_division : (w : View) (right : List Interval) → AreForced tree row k (record w { w = right }) → HoldsAddedForces (record w { w = right }) w →
+  in_sides : (w : View) → AreFree tree row k w → RefusesRowSides k.rows w e → IsContactRefused tree row k e
+  in_forces : (w : View) → AreFree tree row k w → HoldsRowSides k.rows w w → RefusesRowForces k.rows w e → IsContactRefused tree row k e
+  in_addition : (w : View) → AreForced tree row k w → RefusesAddedForces k.rows w e → IsContactRefused tree row k e
+  in_second_division : (w : View) (right : List Interval) → AreForced tree row k (record w { w = right }) → HoldsAddedForces k.rows (record w { w = right }) w →
       RefusesDivide w e → IsContactRefused tree row k e
   in_substitution : (w : View) (right quotients : List Interval) → AreForced tree row k (record w { w = right; z = quotients }) →
-      HoldsAddedForces (record w { w = right }) w → HoldsDivided w w → RefusesSubstitute w e → IsContactRefused tree row k e
+      HoldsAddedForces k.rows (record w { w = right }) w → HoldsDivided w w → RefusesSubstitute w e → IsContactRefused tree row k e
 
 -- ---- answers
 -- the forces of the rows
@@ -91,7 +91,7 @@ forces_in k w = map (lam_at w) (upward 1 (k.rows + 1))
 -- how the rows act on one another
 abbrev pub coupled_of : Constraints Interval → View → Result View RowFault
 coupled_of k w =
-    couple_of w.up w.rows w.packed w.J (map (compliances k) (upward 1 (k.rows + 1))) (w.Y, w.Z, w.pairs) >>= λ t.
+    couple_of w.up w.rows k.rows w.packed w.J (map (compliances k) (upward 1 (k.rows + 1))) (w.Y, w.Z, w.pairs) >>= λ t.
     Ok (record w { Y = t.0; Z = t.1; pairs = t.2 })
 
 -- the steps that find numbers of columns or rows from those that the work has
@@ -101,14 +101,14 @@ reduced_of w = reduce_of w.up w.packed w.w >>= λ t. Ok (record w { w = t })
 abbrev pub divided_of : View → Result View RowFault
 divided_of w = divide_of w.up w.packed w.w w.z >>= λ t. Ok (record w { z = t })
 
-abbrev pub sided_of : View → Result View RowFault
-sided_of w = sides_of (columns_of w) w.rows w.Y w.z w.g w.e >>= λ t. Ok (record w { e = t })
+abbrev pub sided_of : Constraints Interval → View → Result View RowFault
+sided_of k w = sides_of (columns_of w) k.rows w.Y w.z w.g w.e >>= λ t. Ok (record w { e = t })
 
-abbrev pub forced_of : View → Result View RowFault
-forced_of w = row_forces_of w.rows w.pairs (w.e, w.lam) >>= λ t. Ok (record w { e = t.0; lam = t.1 })
+abbrev pub forced_of : Constraints Interval → View → Result View RowFault
+forced_of k w = row_forces_of w.rows k.rows w.pairs (w.e, w.lam) >>= λ t. Ok (record w { e = t.0; lam = t.1 })
 
-abbrev pub pushed_of : View → Result View RowFault
-pushed_of w = added_of (columns_of w) w.rows w.Y w.lam w.w >>= λ t. Ok (record w { w = t })
+abbrev pub pushed_of : Constraints Interval → View → Result View RowFault
+pushed_of k w = added_of (columns_of w) k.rows w.Y w.lam w.w >>= λ t. Ok (record w { w = t })
 
 abbrev pub substituted_of : View → Result View RowFault
 substituted_of w = substitute_of w.up w.packed w.z w.x >>= λ t. Ok (record w { x = t })
@@ -122,9 +122,9 @@ contact_of tree row k =
     coupled_of k b >>= λ c.
     reduced_of c >>= λ d.
     divided_of d >>= λ u.
-    sided_of u >>= λ s.
-    forced_of s >>= λ f.
-    pushed_of f >>= λ a.
+    sided_of k u >>= λ s.
+    forced_of k s >>= λ f.
+    pushed_of k f >>= λ a.
     divided_of a >>= λ v.
     substituted_of v >>= λ w.
     Ok (accelerations_in tree w, forces_in k w)

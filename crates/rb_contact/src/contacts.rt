@@ -1,6 +1,6 @@
 //! Forward dynamics of a row under rows of constraints.
 
-ghost use Rattle.std.specs.Prelude.{◌≡◌, OnOk, IfErr};
+ghost use Rattle.std.specs.Prelude.{◌≡◌, ◌≤◌, OnOk, IfErr};
 ghost use Rattle.rb_sweep.specs.Sweep.{Answers};
 ghost use Rattle.rb_flat.specs.Contact.{RowsFit};
 ghost use Rattle.rb_tree.specs.Shape.{shape_of};
@@ -27,7 +27,7 @@ fn constrained(
 ) -> Result<(), RowFault>
     requires fits { Fits robot.now state.now }
     requires room { IsFor robot.now work.old }
-    requires rows { work.old.rows ≡ (constraints_of cons.now).rows }
+    requires rows { (constraints_of cons.now).rows ≤ work.old.rows }
     requires fit { RowsFit (shape_of robot.now) (constraints_of cons.now) }
     ensures values { OnOk result (AreConstrained robot.now state.now (constraints_of cons.now) work.new) }
     ensures right { OnOk result (IsRightSide robot.now work.new) }
@@ -45,7 +45,7 @@ fn constrained(
 fn forced(robot: &Robot, cons: &Constraints, state: &State, work: &mut Work) -> Result<(), RowFault>
     requires fits { Fits robot.now state.now }
     requires room { IsFor robot.now work.old }
-    requires rows { work.old.rows ≡ (constraints_of cons.now).rows }
+    requires rows { (constraints_of cons.now).rows ≤ work.old.rows }
     requires fit { RowsFit (shape_of robot.now) (constraints_of cons.now) }
     ensures values { OnOk result (AreForced robot.now state.now (constraints_of cons.now) work.new) }
     ensures refused { IfErr result (IsContactRefused robot.now state.now (constraints_of cons.now)) }
@@ -54,8 +54,8 @@ fn forced(robot: &Robot, cons: &Constraints, state: &State, work: &mut Work) -> 
     constrained(robot, cons, state, work)?;
     reduce(work)?;
     divide(work)?;
-    row_sides(work)?;
-    row_forces(work)
+    row_sides(cons.rows(), work)?;
+    row_forces(cons.rows(), work)
 }
 
 /// The accelerations that a row's torques give the joints at its position and speeds, under its gravity, where the rows of the constraints hold, and the
@@ -74,7 +74,7 @@ pub fn contact(
 ) -> Result<(), RowFault>
     requires fits { Fits robot.now state.now }
     requires room { IsFor robot.now work.old }
-    requires rows { work.old.rows ≡ (constraints_of cons.now).rows }
+    requires rows { (constraints_of cons.now).rows ≤ work.old.rows }
     requires fit { RowsFit (shape_of robot.now) (constraints_of cons.now) }
 
     // each value that the work holds is what its rule gives from the values that the work holds
@@ -95,7 +95,7 @@ pub fn contact(
     let _tree = robot.bodies();
     let _sizes = work.bodies();
     forced(robot, cons, state, work)?;
-    add_row_forces(work)?;
+    add_row_forces(cons.rows(), work)?;
     divide(work)?;
     substitute(work)
 }
