@@ -53,9 +53,9 @@ module _ (n : ℕ) (up : ℕ → ℕ) (R : ℕ) (mu nu : ℕ → Interval) (same
       IsCoupleRefused.by_elimination left Y Z alone G k table l C h (coupled_from Y Z alone G coupled) low until refused
 
 -- a work holds the coupling of the rows that it holds, also with the same compliances
-pub coupling_from : (b : View) (Y Z pairs : List Interval) (mu nu : ℕ → Interval) → ((r : ℕ) → IsRow b.rows r → mu r ≡ nu r)
-    → HoldsCoupling b (record b { Y = Y; Z = Z; pairs = pairs }) mu → HoldsCoupling (record b { Y = Y; Z = Z; pairs = pairs }) (record b { Y = Y; Z = Z; pairs = pairs }) nu
-coupling_from b Y Z pairs mu nu same h =
+pub coupling_from : (R : ℕ) (b : View) (Y Z pairs : List Interval) (mu nu : ℕ → Interval) → ((r : ℕ) → IsRow R r → mu r ≡ nu r)
+    → HoldsCoupling R b (record b { Y = Y; Z = Z; pairs = pairs }) mu → HoldsCoupling R (record b { Y = Y; Z = Z; pairs = pairs }) (record b { Y = Y; Z = Z; pairs = pairs }) nu
+coupling_from R b Y Z pairs mu nu same h =
     let c : View = record b { Y = Y; Z = Z; pairs = pairs } in
     record {
       left = h.left;
@@ -63,7 +63,7 @@ coupling_from b Y Z pairs mu nu same h =
       G = h.G;
       table = h.table;
       reduced = h.reduced;
-      coupled = coupled_from (columns_of c) (above c.up) c.rows mu nu same (Y_at c) (Z_at c) h.alone h.G h.coupled;
+      coupled = coupled_from (columns_of c) (above c.up) R mu nu same (Y_at c) (Z_at c) h.alone h.G h.coupled;
       eliminated = h.eliminated;
       divisors = h.divisors;
     }

@@ -1,5 +1,5 @@
 -- The values of forward dynamics under rows of constraints, and what is refused first, from those of its parts.
-use Rattle.std.proofs.Common.{◌≡◌, ℕ, List, sym, ap, ◌∙◌, subst}
+use Rattle.std.proofs.Common.{◌≡◌, ℕ, ◌≤◌, List, length, sym, ap, ◌∙◌, subst}
 use Rattle.std.specs.Prelude.{slice_index_or}
 use Rattle.rb_num.specs.Interval.{Interval, zero_interval}
 use Rattle.rb_flat.specs.Contact.{Constraints}
@@ -64,26 +64,26 @@ module _ (tree : Tree) (row : Row) (k : Constraints Interval) where
   pub biased_divisors : (b : View) → AreBiased b → HoldsDivisors b
   biased_divisors b h = h.factored.factors.divisors
 
-  pub couple_refused : (b : View) (mus : List Interval) (e : RowFault) → AreBiased b → b.rows ≡ k.rows → ((r : ℕ) → IsRow k.rows r → of_row mus r ≡ compliances k r)
+  pub couple_refused : (b : View) (mus : List Interval) (e : RowFault) → AreBiased b → length mus ≡ k.rows → ((r : ℕ) → IsRow k.rows r → of_row mus r ≡ compliances k r)
       → RefusesCouple b mus e → IsContactRefused tree row k e
   couple_refused b mus e h count same refused =
       IsContactRefused.in_coupling b h.factored h.driving h.rows h.bias
       (couple_refused_from (columns_of b) (above b.up) k.rows (of_row mus) (compliances k) same (L_at b) (D_at b) (J_at b) e
       (subst (λ (R : ℕ). IsCoupleRefused (columns_of b) (above b.up) R (L_at b) (D_at b) (J_at b) (of_row mus) e) count refused))
 
-  pub constrained_from : (b c : View) (mus : List Interval) → AreBiased b → b.rows ≡ k.rows → ((r : ℕ) → IsRow k.rows r → of_row mus r ≡ compliances k r)
-      → c ≡ record b { Y = c.Y; Z = c.Z; pairs = c.pairs } → HoldsCoupling b c (of_row mus) → AreConstrained tree row k c
-  constrained_from b c mus h count same e coupling =
+  pub constrained_from : (b c : View) (mus : List Interval) → AreBiased b → k.rows ≤ b.rows → length mus ≡ k.rows → ((r : ℕ) → IsRow k.rows r → of_row mus r ≡ compliances k r)
+      → c ≡ record b { Y = c.Y; Z = c.Z; pairs = c.pairs } → HoldsCoupling (length mus) b c (of_row mus) → AreConstrained tree row k c
+  constrained_from b c mus h room count same e coupling =
       let d : View = record b { Y = c.Y; Z = c.Z; pairs = c.pairs } in
-      let each : (r : ℕ) → IsRow b.rows r → of_row mus r ≡ compliances k r = λ r there. same r (subst (λ (R : ℕ). IsRow R r) count there) in
+      let held : HoldsCoupling k.rows b c (of_row mus) = subst (λ (R : ℕ). HoldsCoupling R b c (of_row mus)) count coupling in
       subst (λ (v : View). AreConstrained tree row k v) (sym e)
       (record {
         factored = factored_stays tree row b d h.factored;
         driving = driving_stays tree row b d h.driving;
-        count = count;
+        count = room;
         rows = rows_stay tree k b d h.rows;
         bias = bias_stays k b d h.bias;
-        coupling = coupling_from b c.Y c.Z c.pairs (of_row mus) (compliances k) each (subst (λ (v : View). HoldsCoupling b v (of_row mus)) e coupling);
+        coupling = coupling_from k.rows b c.Y c.Z c.pairs (of_row mus) (compliances k) same (subst (λ (v : View). HoldsCoupling k.rows b v (of_row mus)) e held);
       })
 
   -- ---- what the factors find without the forces, behind the work c
@@ -126,24 +126,24 @@ module _ (tree : Tree) (row : Row) (k : Constraints Interval) where
   -- the right sides are there
   pub record AreSided (s : View) : Type 0 where
     pub free : AreFree tree row k s
-    pub sides : HoldsRowSides s s
+    pub sides : HoldsRowSides k.rows s s
 
-  sided_at : (d : View) (e : List Interval) → AreFree tree row k d → HoldsRowSides d (record d { e = e }) → AreSided (record d { e = e })
+  sided_at : (d : View) (e : List Interval) → AreFree tree row k d → HoldsRowSides k.rows d (record d { e = e }) → AreSided (record d { e = e })
   sided_at d e h sides = record {
     free = free_stays tree row k d (record d { e = e }) h;
     sides = record { without = sides.without; total = sides.total; are = sides.are };
   }
 
-  pub sided_from : (d s : View) → AreFree tree row k d → s ≡ record d { e = s.e } → HoldsRowSides d s → AreSided s
-  sided_from d s h e sides = subst (λ (v : View). AreSided v) (sym e) (sided_at d s.e h (subst (λ (v : View). HoldsRowSides d v) e sides))
+  pub sided_from : (d s : View) → AreFree tree row k d → s ≡ record d { e = s.e } → HoldsRowSides k.rows d s → AreSided s
+  sided_from d s h e sides = subst (λ (v : View). AreSided v) (sym e) (sided_at d s.e h (subst (λ (v : View). HoldsRowSides k.rows d v) e sides))
 
-  pub row_divisors : (s : View) → AreSided s → HoldsRowDivisors s
+  pub row_divisors : (s : View) → AreSided s → HoldsRowDivisors k.rows s
   row_divisors s h = h.free.constrained.coupling.divisors
 
-  pub forces_refused : (s : View) (e : RowFault) → AreSided s → RefusesRowForces s e → IsContactRefused tree row k e
+  pub forces_refused : (s : View) (e : RowFault) → AreSided s → RefusesRowForces k.rows s e → IsContactRefused tree row k e
   forces_refused s e h refused = IsContactRefused.in_forces s h.free h.sides refused
 
-  forced_at : (s : View) (e lam : List Interval) → AreSided s → HoldsRowForces s (record s { e = e; lam = lam }) → AreForced tree row k (record s { e = e; lam = lam })
+  forced_at : (s : View) (e lam : List Interval) → AreSided s → HoldsRowForces k.rows s (record s { e = e; lam = lam }) → AreForced tree row k (record s { e = e; lam = lam })
   forced_at s e lam h forces = record {
     free = free_stays tree row k s (record s { e = e; lam = lam }) h.free;
     sides = s.e;
@@ -160,25 +160,25 @@ module _ (tree : Tree) (row : Row) (k : Constraints Interval) where
     };
   }
 
-  pub forced_from : (s f : View) → AreSided s → f ≡ record s { e = f.e; lam = f.lam } → HoldsRowForces s f → AreForced tree row k f
+  pub forced_from : (s f : View) → AreSided s → f ≡ record s { e = f.e; lam = f.lam } → HoldsRowForces k.rows s f → AreForced tree row k f
   forced_from s f h e forces =
-      subst (λ (v : View). AreForced tree row k v) (sym e) (forced_at s f.e f.lam h (subst (λ (v : View). HoldsRowForces s v) e forces))
+      subst (λ (v : View). AreForced tree row k v) (sym e) (forced_at s f.e f.lam h (subst (λ (v : View). HoldsRowForces k.rows s v) e forces))
 
   -- ---- the accelerations, behind the work f
   pub second_divisors : (f a : View) → AreForced tree row k f → a ≡ record f { w = a.w } → HoldsDivisors a
   second_divisors f a h e = subst (λ (v : View). HoldsDivisors v) (sym e) h.free.constrained.factored.factors.divisors
 
-  pub second_refused : (f a : View) (e : RowFault) → AreForced tree row k f → a ≡ record f { w = a.w } → HoldsAddedForces f a → RefusesDivide a e → IsContactRefused tree row k e
+  pub second_refused : (f a : View) (e : RowFault) → AreForced tree row k f → a ≡ record f { w = a.w } → HoldsAddedForces k.rows f a → RefusesDivide a e → IsContactRefused tree row k e
   second_refused f a e h ea added refused =
       IsContactRefused.in_second_division a f.w (subst (λ (v : View). AreForced tree row k (record v { w = f.w })) (sym ea) h)
-      (subst (λ (v : View). HoldsAddedForces (record v { w = f.w }) a) (sym ea) added) refused
+      (subst (λ (v : View). HoldsAddedForces k.rows (record v { w = f.w }) a) (sym ea) added) refused
 
-  substituted_at : (f : View) (w z : List Interval) (e : RowFault) → AreForced tree row k f → HoldsAddedForces f (record f { w = w })
+  substituted_at : (f : View) (w z : List Interval) (e : RowFault) → AreForced tree row k f → HoldsAddedForces k.rows f (record f { w = w })
       → HoldsDivided (record f { w = w }) (record f { w = w; z = z }) → RefusesSubstitute (record f { w = w; z = z }) e → IsContactRefused tree row k e
   substituted_at f w z e h added divided refused =
       IsContactRefused.in_substitution (record f { w = w; z = z }) f.w f.z h (record { more = added.more; are = added.are }) divided refused
 
-  contact_at : (f : View) (w z x : List Interval) → AreForced tree row k f → HoldsAddedForces f (record f { w = w })
+  contact_at : (f : View) (w z x : List Interval) → AreForced tree row k f → HoldsAddedForces k.rows f (record f { w = w })
       → HoldsDivided (record f { w = w }) (record f { w = w; z = z }) → HoldsSubstituted (record f { w = w; z = z }) (record f { w = w; z = z; x = x })
       → AreContact tree row k (record f { w = w; z = z; x = x })
   contact_at f w z x h added divided substituted = record {
@@ -190,12 +190,12 @@ module _ (tree : Tree) (row : Row) (k : Constraints Interval) where
     substituted = record { part = substituted.part; is = substituted.is };
   }
 
-  module _ (f a d : View) (h : AreForced tree row k f) (ea : a ≡ record f { w = a.w }) (added : HoldsAddedForces f a) (ed : d ≡ record a { z = d.z }) (divided : HoldsDivided a d) where
+  module _ (f a d : View) (h : AreForced tree row k f) (ea : a ≡ record f { w = a.w }) (added : HoldsAddedForces k.rows f a) (ed : d ≡ record a { z = d.z }) (divided : HoldsDivided a d) where
     from_f : d ≡ record f { w = a.w; z = d.z }
     from_f = ed ∙ ap (λ (v : View). record v { z = d.z }) ea
 
-    added_at : HoldsAddedForces f (record f { w = a.w })
-    added_at = subst (λ (v : View). HoldsAddedForces f v) ea added
+    added_at : HoldsAddedForces k.rows f (record f { w = a.w })
+    added_at = subst (λ (v : View). HoldsAddedForces k.rows f v) ea added
 
     divided_at : HoldsDivided (record f { w = a.w }) (record f { w = a.w; z = d.z })
     divided_at = subst (λ (v : View). HoldsDivided (record f { w = a.w }) v) from_f (subst (λ (v : View). HoldsDivided v d) ea divided)

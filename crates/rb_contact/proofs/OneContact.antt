@@ -81,8 +81,8 @@ module _ (tree : Tree) (row : Row) (k : Constraints Interval) (kept : AreBodies 
   seen : (w : View) → IsFor tree w → (P : ℕ → (ℕ → ℕ) → Type 0) → P (columns_of w) (above w.up) → P (length (ups_of tree)) (above (ups_of tree))
   seen w room P h = subst (λ (ups : List ℕ). P (length ups) (above ups)) (ups_same tree w.up room.up) h
 
-  seen_rows : (w : View) → AreConstrained tree row k w → (P : ℕ → (ℕ → ℕ) → ℕ → Type 0) → P (columns_of w) (above w.up) w.rows → P (length (ups_of tree)) (above (ups_of tree)) k.rows
-  seen_rows w h P p = seen w h.factored.room (λ m a. P m a k.rows) (subst (λ (r : ℕ). P (columns_of w) (above w.up) r) h.count p)
+  seen_rows : (w : View) → AreConstrained tree row k w → (P : ℕ → (ℕ → ℕ) → ℕ → Type 0) → P (columns_of w) (above w.up) k.rows → P (length (ups_of tree)) (above (ups_of tree)) k.rows
+  seen_rows w h P p = seen w h.factored.room (λ m a. P m a k.rows) p
 
   -- ---- what is left of the torques, and the rows
   module _ (u w : View) (hu : AreFactored tree row u) (hw : AreFactored tree row w) where
