@@ -14,7 +14,8 @@ use Rattle.rb_num.specs.Fraction.{LiesIn}
 use Rattle.rb_num.specs.Least.{units}
 use Rattle.rb_num.proofs.Order.{times_pos}
 use Rattle.rb_flat.specs.Choice.{IsOrdered, AreOrdered}
-use Rattle.rb_flat.specs.Contact.{RowNumbers, HasRow, RowFits}
+use Rattle.rb_flat.specs.Contact.{RowNumbers, HasRow, RowFits, RowsFit}
+use Rattle.rb_flat.specs.Shape.{Shape}
 use Rattle.rb_tree.specs.Robot.{Tree}
 use Rattle.rb_tree.specs.Shape.{shape_of}
 use Rattle.rb_tree.proofs.GroupNames.{link_there}
@@ -184,9 +185,12 @@ has_choice list are =
       },
     )
 
--- no constraints
+-- no constraints, which are between bodies of each robot
 pub none_kept : AreConstraints []
 none_kept = record { differ = λ i j d before within. absurd (omega arith); few = omega (arith, ap length rows_of-none); kept = tt }
+
+pub none_fit : (shape : Shape) → RowsFit shape (constraints_of [])
+none_fit shape r has = absurd (omega (arith, has.from, has.to, ap length rows_of-none))
 
 -- ---- compliances
 at_index : (rows : List Row) (k : ℕ) → slice_index_or (map compliance_of rows) k zero_interval ≡ (option_map_or flat_numbers (slice_get rows k) no_numbers).compliance

@@ -2,7 +2,8 @@
 ghost use Rattle.std.specs.Prelude.{◌≡◌, ◌≤◌, ◌<◌, ◌+◌, ◌-◌, ◌++◌, ◌∷◌, [], ℕ, length, map, slice_get, slice_index_or, bytes_eq, OnOk, IfOk, Some};
 ghost use Rattle.std.specs.List.{AllByRecursion};
 ghost use Rattle.rb_num.specs.Interval.{zero_interval};
-ghost use Rattle.rb_flat.specs.Contact.{HasRow};
+ghost use Rattle.rb_flat.specs.Contact.{HasRow, RowsFit};
+ghost use Rattle.rb_flat.specs.Shape.{Shape};
 ghost use Rattle.rb_constraint.specs.Axes.{where_held, directions};
 ghost use Rattle.rb_constraint.specs.Constraints.{row_of, own_rows, rows_of, row_at, flat_row, flat_numbers, compliance_of, constraints_of, IsConstraintKept, AreConstraints};
 
@@ -155,9 +156,10 @@ impl Model for Constraints {
 }
 
 impl Constraints {
-    /// No constraints. This takes no memory.
+    /// No constraints, which fit each robot. This takes no memory.
     pub fn none(alloc: Global) -> Constraints
-        ensures { result ≡ [] }
+        ensures exact { result ≡ [] }
+        ensures fit { (shape : Shape) → RowsFit shape (constraints_of result) }
     {
         Constraints {
             list: Vec::new(alloc),

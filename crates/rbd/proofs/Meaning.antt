@@ -12,6 +12,7 @@ use Rattle.rb_flat.specs.Contact.{RowsFit}
 use Rattle.rb_constraint.specs.declared.constraints.Constraint.{Constraint}
 use Rattle.rb_constraint.specs.Constraints.{constraints_of, AreConstraints}
 use Rattle.rb_constraint.specs.Laws.{RowsFitRobot}
+use Rattle.rb_constraint.proofs.RowLaws.{none_fit, none_kept}
 use Rattle.rb_work.specs.declared.names.RowFault.{RowFault}
 use Rattle.rb_model.specs.Model.{model_text}
 use Rattle.rb_rows.specs.Columns.{state_columns}
@@ -39,7 +40,6 @@ use Rattle.rbd.specs.Headline.{IsAnswered, IsRefusal, Means, AreAnswered, IsPut,
 use Rattle.rbd.specs.Inputs.{Rows, rows_of, inputs_of, long_line, is_long, is_short}
 use Rattle.rbd.specs.Plan.{Plan, IsPlan, IsConstraintsIn, constraints_held, Leads, job_of}
 use Rattle.rbd.specs.Run.{Source, Stream, Follows, EndsEarly, HasCourse, Goes}
-use Rattle.rbd.proofs.Refusals.{none_fit, none_kept}
 
 -- ---- one line
 -- what is known of each task
@@ -111,7 +111,7 @@ plan_fits : RowsFitRobot → (words : List (List ℕ)) (held : List ℕ → List
 plan_fits fits words held plan planned = by_file (constraints_held planned.command held) planned.constraints
   where
     by_file : (file : Option (List ℕ)) → IsConstraintsIn plan.tree file plan.constraints → RowsFit (shape_of plan.tree) (constraints_of plan.constraints)
-    by_file None none = subst (λ (cons : List Constraint). RowsFit (shape_of plan.tree) (constraints_of cons)) (sym none) (none_fit plan.tree)
+    by_file None none = subst (λ (cons : List Constraint). RowsFit (shape_of plan.tree) (constraints_of cons)) (sym none) (none_fit (shape_of plan.tree))
     by_file (Some bytes) file = fits plan.tree bytes plan.constraints file.is
 
 plan_kept : (words : List (List ℕ)) (held : List ℕ → List ℕ) (plan : Plan) → IsPlan words held plan → AreConstraints plan.constraints

@@ -32,10 +32,8 @@ use Rattle.rb_tree.specs.Build.{Source}
 use Rattle.rb_tree.specs.Refusals.{HasFault}
 use Rattle.rb_tree.specs.Faults as Tree
 use Rattle.rb_tree.specs.Robot.{Tree}
-use Rattle.rb_tree.specs.Shape.{shape_of}
-use Rattle.rb_flat.specs.Contact.{RowsFit}
 use Rattle.rb_constraint.specs.declared.constraints.Constraint.{Constraint}
-use Rattle.rb_constraint.specs.Constraints.{rows_of, constraints_of, AreConstraints}
+use Rattle.rb_constraint.specs.Constraints.{AreConstraints}
 use Rattle.rb_constraint.specs.File.{IsFile}
 use Rattle.rbd.specs.declared.stop.ConstraintsFault.{ConstraintsFault}
 use Rattle.rbd.specs.declared.stop.ConstraintsFault.TheVariants as wrong
@@ -227,12 +225,3 @@ constraints_unread tree bytes reading.Memory stop is long = rw is tt
 -- one that is read
 pub constraints_read : (tree : Tree) (bytes held : List ℕ) (list : List Constraint) → bytes ≡ held → length bytes ≤ most_file → IsFile tree bytes list → AreConstraints list → IsConstraintsFile tree held list
 constraints_read tree bytes held list same short is kept = subst (λ (b : List ℕ). IsConstraintsFile tree b list) same (record { short = short; is = is; kept = kept })
-
--- where none are told, they are between bodies of each robot, and are kept
-pub none_fit : (tree : Tree) → RowsFit (shape_of tree) (constraints_of [])
-unfolding rows_of
-none_fit tree r has = absurd (omega (arith, has.from, has.to))
-
-pub none_kept : AreConstraints []
-unfolding rows_of
-none_kept = record { differ = λ i j d before within. absurd (omega (arith, within)); few = omega arith; kept = tt }
