@@ -26,6 +26,10 @@ room_same tree u w e h = record {
   up = subst (AreUps tree.bodies) (sym (ap (λ x. x.up) e)) h.up;
 }
 
+-- a work that has as many rows as another has room for so many too
+pub rows_within : (rows : ℕ) (u w : View) → w.rows ≡ u.rows → rows ≤ u.rows → rows ≤ w.rows
+rows_within rows u w e within = subst (λ (n : ℕ). rows ≤ n) (sym e) within
+
 -- ---- the bias, the mass table and its factors
 pub bias_stays : (tree : Tree) (row : Row) (u m : View) → m ≡ record u { I = m.I; H = m.H; packed = m.packed } → AreDynamics tree row u → AreDynamics tree row m
 bias_stays tree row u m e h =

@@ -1,10 +1,12 @@
 -- What forward dynamics under rows of constraints finds from zeros, and what its answer means.
-use Rattle.std.proofs.Common.{◌≡◌, ◌≤◌, ◌+◌, ◌-◌, ℕ, List, length, map, Result, Ok, Err, OnOk, IfErr, inl, inr, refl, sym, ap, ◌∙◌, subst}
+use Rattle.std.proofs.Common.{◌≡◌, ◌≤◌, ◌+◌, ℕ, List, length, map, Result, Ok, Err, OnOk, IfErr, inl, inr, refl, sym, ap, ◌∙◌, subst, arith}
+use Rattle.std.proofs.lemmas.List.{length-map}
 use mathlib.Core.Path.{ap₂}
 use Rattle.rb_num.specs.Interval.{Interval, zero_interval}
 use Rattle.rb_result.specs.Steps.{◌>>=◌}
 use Rattle.rb_result.proofs.Results.{same_ok, then-ok, then-err, not-both}
 use Rattle.rb_sweep.specs.Sweep.{Answers, upward}
+use Rattle.rb_sweep.proofs.Climbing.{length-upward}
 use Rattle.rb_sweep.proofs.NamingLaws.{found}
 use Rattle.rb_flat.specs.Contact.{Constraints, RowsFit}
 use Rattle.rb_bordered.specs.Steps.{IsRow}
@@ -56,21 +58,21 @@ not_done r f e q =
 resized : (u w : View) → sizes_of w ≡ sizes_of u → IsSized u → IsSized w
 resized u w e sized = sized_from w (extent_of u) sized.extent (e ∙ room_for u (extent_of u) sized refl)
 
-record Coupled (mus : List Interval) (b c : View) : Type 0 where
+record Coupled (R : ℕ) (mus : List Interval) (b c : View) : Type 0 where
   rest : c ≡ record b { Y = c.Y; Z = c.Z; pairs = c.pairs }
-  holds : HoldsCoupling b c (of_row mus)
+  holds : HoldsCoupling R b c (of_row mus)
   sized : IsSized c
 
-couples : (mus : List Interval) (b c : View) → IsSized b
-    → (couple_of b.up b.rows b.packed b.J mus (b.Y, b.Z, b.pairs) >>= λ t. ok (record b { Y = t.0; Z = t.1; pairs = t.2 })) ≡ Ok c → Coupled mus b c
-couples mus b c sized e =
-    let h = done (couple_of b.up b.rows b.packed b.J mus (b.Y, b.Z, b.pairs)) (λ t. record b { Y = t.0; Z = t.1; pairs = t.2 }) c e in
+couples : (R : ℕ) (mus : List Interval) (b c : View) → IsSized b → R ≤ b.rows
+    → (couple_of b.up b.rows R b.packed b.J mus (b.Y, b.Z, b.pairs) >>= λ t. ok (record b { Y = t.0; Z = t.1; pairs = t.2 })) ≡ Ok c → Coupled R mus b c
+couples R mus b c sized within e =
+    let h = done (couple_of b.up b.rows R b.packed b.J mus (b.Y, b.Z, b.pairs)) (λ t. record b { Y = t.0; Z = t.1; pairs = t.2 }) c e in
     let t = h.0 in
-    let long = coupling_long b.up b.rows b.packed b.J mus (b.Y, b.Z, b.pairs) t h.1 in
-    subst (λ (v : View). Coupled mus b v) h.2
+    let long = coupling_long b.up b.rows R b.packed b.J mus (b.Y, b.Z, b.pairs) t h.1 in
+    subst (λ (v : View). Coupled R mus b v) h.2
     (record {
       rest = refl;
-      holds = Rows.couple_values b sized mus t h.1;
+      holds = Rows.couple_values b sized R within mus t h.1;
       sized =
           resized b (record b { Y = t.0; Z = t.1; pairs = t.2 })
           (ap (λ (n : ℕ). record (sizes_of b) { Y = n; Z = length t.1; pairs = length t.2 }) (sym long.Y) ∙ ap (λ (n : ℕ). record (sizes_of b) { Z = n; pairs = length t.2 }) (sym long.Z)
@@ -107,53 +109,53 @@ divides c d sized e =
       sized = resized c (record c { z = h.0 }) (ap (λ (n : ℕ). record (sizes_of c) { z = n }) (sym (divide_long c.up c.packed c.w c.z h.0 h.1))) sized;
     })
 
-record Sides (u s : View) : Type 0 where
+record Sides (k : Constraints Interval) (u s : View) : Type 0 where
   rest : s ≡ record u { e = s.e }
-  holds : HoldsRowSides u s
+  holds : HoldsRowSides k.rows u s
   sized : IsSized s
 
-finds_sides : (u s : View) → IsSized u → sided_of u ≡ Ok s → Sides u s
-finds_sides u s sized e =
-    let h = done (sides_of (columns_of u) u.rows u.Y u.z u.g u.e) (λ t. record u { e = t }) s e in
-    subst (λ (v : View). Sides u v) h.2
+finds_sides : (k : Constraints Interval) (u s : View) → IsSized u → k.rows ≤ u.rows → sided_of k u ≡ Ok s → Sides k u s
+finds_sides k u s sized within e =
+    let h = done (sides_of (columns_of u) k.rows u.Y u.z u.g u.e) (λ t. record u { e = t }) s e in
+    subst (λ (v : View). Sides k u v) h.2
     (record {
       rest = refl;
-      holds = Rows.sides_values u sized h.0 h.1;
-      sized = resized u (record u { e = h.0 }) (ap (λ (n : ℕ). record (sizes_of u) { e = n }) (sym (sides_long (columns_of u) u.rows u.Y u.z u.g u.e h.0 h.1))) sized;
+      holds = Rows.sides_values u sized k.rows within h.0 h.1;
+      sized = resized u (record u { e = h.0 }) (ap (λ (n : ℕ). record (sizes_of u) { e = n }) (sym (sides_long (columns_of u) k.rows u.Y u.z u.g u.e h.0 h.1))) sized;
     })
 
-record Forces (s f : View) : Type 0 where
+record Forces (k : Constraints Interval) (s f : View) : Type 0 where
   rest : f ≡ record s { e = f.e; lam = f.lam }
-  holds : HoldsRowForces s f
+  holds : HoldsRowForces k.rows s f
   sized : IsSized f
 
-finds_forces : (s f : View) → IsSized s → forced_of s ≡ Ok f → Forces s f
-finds_forces s f sized e =
-    let h = done (row_forces_of s.rows s.pairs (s.e, s.lam)) (λ t. record s { e = t.0; lam = t.1 }) f e in
+finds_forces : (k : Constraints Interval) (s f : View) → IsSized s → k.rows ≤ s.rows → forced_of k s ≡ Ok f → Forces k s f
+finds_forces k s f sized within e =
+    let h = done (row_forces_of s.rows k.rows s.pairs (s.e, s.lam)) (λ t. record s { e = t.0; lam = t.1 }) f e in
     let t = h.0 in
-    let long = row_forces_long s.rows s.pairs (s.e, s.lam) t h.1 in
-    subst (λ (v : View). Forces s v) h.2
+    let long = row_forces_long s.rows k.rows s.pairs (s.e, s.lam) t h.1 in
+    subst (λ (v : View). Forces k s v) h.2
     (record {
       rest = refl;
-      holds = Rows.forces_values s sized t h.1;
+      holds = Rows.forces_values s sized k.rows within t h.1;
       sized =
           resized s (record s { e = t.0; lam = t.1 })
           (ap (λ (n : ℕ). record (sizes_of s) { e = n; lam = length t.1 }) (sym long.e) ∙ ap (λ (n : ℕ). record (sizes_of s) { lam = n }) (sym long.lam)) sized;
     })
 
-record Pushes (f a : View) : Type 0 where
+record Pushes (k : Constraints Interval) (f a : View) : Type 0 where
   rest : a ≡ record f { w = a.w }
-  holds : HoldsAddedForces f a
+  holds : HoldsAddedForces k.rows f a
   sized : IsSized a
 
-pushes : (f a : View) → IsSized f → pushed_of f ≡ Ok a → Pushes f a
-pushes f a sized e =
-    let h = done (added_of (columns_of f) f.rows f.Y f.lam f.w) (λ t. record f { w = t }) a e in
-    subst (λ (v : View). Pushes f v) h.2
+pushes : (k : Constraints Interval) (f a : View) → IsSized f → k.rows ≤ f.rows → pushed_of k f ≡ Ok a → Pushes k f a
+pushes k f a sized within e =
+    let h = done (added_of (columns_of f) k.rows f.Y f.lam f.w) (λ t. record f { w = t }) a e in
+    subst (λ (v : View). Pushes k f v) h.2
     (record {
       rest = refl;
-      holds = Rows.added_values f sized h.0 h.1;
-      sized = resized f (record f { w = h.0 }) (ap (λ (n : ℕ). record (sizes_of f) { w = n }) (sym (added_long (columns_of f) f.rows f.Y f.lam f.w h.0 h.1))) sized;
+      holds = Rows.added_values f sized k.rows within h.0 h.1;
+      sized = resized f (record f { w = h.0 }) (ap (λ (n : ℕ). record (sizes_of f) { w = n }) (sym (added_long (columns_of f) k.rows f.Y f.lam f.w h.0 h.1))) sized;
     })
 
 record Substitutes (v w : View) : Type 0 where
@@ -165,9 +167,9 @@ substitutes v w sized e =
     let h = done (substitute_of v.up v.packed v.z v.x) (λ t. record v { x = t }) w e in
     subst (λ (u : View). Substitutes v u) h.2 (record { rest = refl; holds = Factors.substitute_values v sized h.0 h.1 })
 
--- a work has few rows
-pub few_rows : (w : View) (k : Constraints Interval) → w.rows ≡ k.rows → IsSized w → k.rows ≤ 64
-few_rows w k e sized = subst (λ (n : ℕ). n ≤ 64) e sized.extent.few_rows
+-- a work has few rows, and no constraints for which it has room have more
+pub few_rows : (w : View) (k : Constraints Interval) → k.rows ≤ w.rows → IsSized w → k.rows ≤ 64
+few_rows w k within sized = let few : w.rows ≤ 64 = sized.extent.few_rows in omega (arith, within, few)
 
 -- ---- a row
 module _ (tree : Tree) (row : Row) (k : Constraints Interval) (kept : AreBodies tree.bodies) (fit : RowsFit (shape_of tree) k) (limit : k.rows ≤ 64) where
@@ -190,6 +192,9 @@ module _ (tree : Tree) (row : Row) (k : Constraints Interval) (kept : AreBodies 
   abbrev mus : List Interval
   mus = map (compliances k) (upward 1 (k.rows + 1))
 
+  as_many : length mus ≡ k.rows
+  as_many = omega (arith, length-map (upward 1 (k.rows + 1)) (compliances k), length-upward 1 (k.rows + 1))
+
   same : (r : ℕ) → IsRow k.rows r → of_row mus r ≡ compliances k r
   same = compliances_are k mus (λ r has. numbered (compliances k) k.rows r zero_interval has.from has.to)
 
@@ -200,13 +205,13 @@ module _ (tree : Tree) (row : Row) (k : Constraints Interval) (kept : AreBodies 
   from_pushed a = divided_of a >>= λ v. from_quotients v
 
   from_forces : View → Result (List Interval × List Interval) RowFault
-  from_forces f = pushed_of f >>= λ a. from_pushed a
+  from_forces f = pushed_of k f >>= λ a. from_pushed a
 
   from_sides : View → Result (List Interval × List Interval) RowFault
-  from_sides s = forced_of s >>= λ f. from_forces f
+  from_sides s = forced_of k s >>= λ f. from_forces f
 
   from_free : View → Result (List Interval × List Interval) RowFault
-  from_free u = sided_of u >>= λ s. from_sides s
+  from_free u = sided_of k u >>= λ s. from_sides s
 
   from_reduced : View → Result (List Interval × List Interval) RowFault
   from_reduced d = divided_of d >>= λ u. from_free u
@@ -227,7 +232,7 @@ module _ (tree : Tree) (row : Row) (k : Constraints Interval) (kept : AreBodies 
   unfolding contact_of from_quotients from_pushed from_forces from_sides from_free from_reduced from_coupled from_biased from_rows from_prepared
   whole = refl
 
-  quotients_told : (f a v : View) → AreForced tree row k f → a ≡ record f { w = a.w } → HoldsAddedForces f a → v ≡ record a { z = v.z } → HoldsDivided a v → IsSized v
+  quotients_told : (f a v : View) → AreForced tree row k f → a ≡ record f { w = a.w } → HoldsAddedForces k.rows f a → v ≡ record a { z = v.z } → HoldsDivided a v → IsSized v
       → Told (from_quotients v)
   unfolding from_quotients
   quotients_told f a v h ea added ev divided sized =
@@ -235,7 +240,7 @@ module _ (tree : Tree) (row : Row) (k : Constraints Interval) (kept : AreBodies 
       (λ w e. let s = substitutes v w sized e in (w, contact_from tree row k f a v h ea added ev divided w s.rest s.holds, refl))
       (λ e r. last_refused tree row k f a v h ea added ev divided e (Factors.substitute_refused v sized e (not_done (substitute_of v.up v.packed v.z v.x) (λ t. record v { x = t }) e r)))
 
-  pushed_told : (f a : View) → AreForced tree row k f → Pushes f a → Told (from_pushed a)
+  pushed_told : (f a : View) → AreForced tree row k f → Pushes k f a → Told (from_pushed a)
   unfolding from_pushed
   pushed_told f a h p =
       then_told (divided_of a) (λ v. from_quotients v)
@@ -246,21 +251,24 @@ module _ (tree : Tree) (row : Row) (k : Constraints Interval) (kept : AreBodies 
   forces_told : (f : View) → AreForced tree row k f → IsSized f → Told (from_forces f)
   unfolding from_forces
   forces_told f h sized =
-      then_told (pushed_of f) (λ a. from_pushed a) (λ a e. pushed_told f a h (pushes f a sized e))
-      (λ e r. IsContactRefused.in_addition f h (Rows.added_refused_of f sized e (not_done (added_of (columns_of f) f.rows f.Y f.lam f.w) (λ t. record f { w = t }) e r)))
+      let within : k.rows ≤ f.rows = h.free.constrained.count in
+      then_told (pushed_of k f) (λ a. from_pushed a) (λ a e. pushed_told f a h (pushes k f a sized within e))
+      (λ e r. IsContactRefused.in_addition f h (Rows.added_refused_of f sized k.rows within e (not_done (added_of (columns_of f) k.rows f.Y f.lam f.w) (λ t. record f { w = t }) e r)))
 
   sides_told : (s : View) → AreSided tree row k s → IsSized s → Told (from_sides s)
   unfolding from_sides
   sides_told s h sized =
-      then_told (forced_of s) (λ f. from_forces f) (λ f e. let p = finds_forces s f sized e in forces_told f (forced_from tree row k s f h p.rest p.holds) p.sized)
+      let within : k.rows ≤ s.rows = h.free.constrained.count in
+      then_told (forced_of k s) (λ f. from_forces f) (λ f e. let p = finds_forces k s f sized within e in forces_told f (forced_from tree row k s f h p.rest p.holds) p.sized)
       (λ e r. forces_refused tree row k s e h
-      (Rows.forces_refused_of s sized (row_divisors tree row k s h) e (not_done (row_forces_of s.rows s.pairs (s.e, s.lam)) (λ t. record s { e = t.0; lam = t.1 }) e r)))
+      (Rows.forces_refused_of s sized k.rows within (row_divisors tree row k s h) e (not_done (row_forces_of s.rows k.rows s.pairs (s.e, s.lam)) (λ t. record s { e = t.0; lam = t.1 }) e r)))
 
   free_told : (u : View) → AreFree tree row k u → IsSized u → Told (from_free u)
   unfolding from_free
   free_told u h sized =
-      then_told (sided_of u) (λ s. from_sides s) (λ s e. let p = finds_sides u s sized e in sides_told s (sided_from tree row k u s h p.rest p.holds) p.sized)
-      (λ e r. IsContactRefused.in_sides u h (Rows.sides_refused_of u sized e (not_done (sides_of (columns_of u) u.rows u.Y u.z u.g u.e) (λ t. record u { e = t }) e r)))
+      let within : k.rows ≤ u.rows = h.constrained.count in
+      then_told (sided_of k u) (λ s. from_sides s) (λ s e. let p = finds_sides k u s sized within e in sides_told s (sided_from tree row k u s h p.rest p.holds) p.sized)
+      (λ e r. IsContactRefused.in_sides u h (Rows.sides_refused_of u sized k.rows within e (not_done (sides_of (columns_of u) k.rows u.Y u.z u.g u.e) (λ t. record u { e = t }) e r)))
 
   reduced_told : (d : View) → AreReduced tree row k d → IsSized d → Told (from_reduced d)
   unfolding from_reduced
@@ -275,30 +283,30 @@ module _ (tree : Tree) (row : Row) (k : Constraints Interval) (kept : AreBodies 
       then_told (reduced_of c) (λ d. from_reduced d) (λ d e. let p = reduces c d sized e in reduced_told d (are_reduced tree row k c d h right p.rest p.holds) p.sized)
       (λ e r. reduce_refused tree row k c e h right (Factors.reduce_refused c sized e (not_done (reduce_of c.up c.packed c.w) (λ t. record c { w = t }) e r)))
 
-  biased_told : (b : View) → AreBiased tree row k b → b.rows ≡ k.rows → IsRightSide tree b → IsSized b → Told (from_biased b)
+  biased_told : (b : View) → AreBiased tree row k b → k.rows ≤ b.rows → IsRightSide tree b → IsSized b → Told (from_biased b)
   unfolding from_biased
-  biased_told b h count right sized =
+  biased_told b h within right sized =
       then_told (coupled_of k b) (λ c. from_coupled c)
-      (λ c e. let p = couples mus b c sized e in
-      coupled_told c (constrained_from tree row k b c mus h count same p.rest p.holds)
+      (λ c e. let p = couples k.rows mus b c sized within e in
+      coupled_told c (constrained_from tree row k b c mus h within as_many same p.rest (subst (λ (R : ℕ). HoldsCoupling R b c (of_row mus)) (sym as_many) p.holds))
       (right_moves tree row k b c (ap (λ (v : View). v.w) p.rest) (ap (λ (v : View). v.k) p.rest) right) p.sized)
-      (λ e r. couple_refused tree row k b mus e h count same
-      (Rows.couple_refused b sized mus (biased_divisors tree row k b h) e
-      (not_done (couple_of b.up b.rows b.packed b.J mus (b.Y, b.Z, b.pairs)) (λ t. record b { Y = t.0; Z = t.1; pairs = t.2 }) e r)))
+      (λ e r. couple_refused tree row k b mus e h as_many same
+      (Rows.couple_refused b sized k.rows within mus as_many (biased_divisors tree row k b h) e
+      (not_done (couple_of b.up b.rows k.rows b.packed b.J mus (b.Y, b.Z, b.pairs)) (λ t. record b { Y = t.0; Z = t.1; pairs = t.2 }) e r)))
 
   record Filled (p r : View) : Type 0 where
     rest : r ≡ record p { O = r.O; K = r.K; J = r.J }
     sized : IsSized r
     rows : AreRows tree k r
 
-  fills : (p r : View) → IsSized p → AreFactored tree row p → p.rows ≡ k.rows → fills_of tree k p ≡ Ok r → Filled p r
-  fills p r sized h count e =
-      let room = RowPass.room_of tree k kept fit p sized h.room count in
+  fills : (p r : View) → IsSized p → AreFactored tree row p → k.rows ≤ p.rows → fills_of tree k p ≡ Ok r → Filled p r
+  fills p r sized h within e =
+      let room = RowPass.room_of tree k kept fit p sized h.room within in
       let f = found _ _ (ordered (RowPass.call tree k (extent_of p)) (RowPass.is_call tree k kept fit (extent_of p) room)) p r (room_for p (extent_of p) sized refl) e in
       record {
         rest = sym (ap (λ (v : View). record v { O = r.O; K = r.K; J = r.J }) f.keeps);
         sized = sized_from r (extent_of p) sized.extent f.fits;
-        rows = RowPass.rows_found tree k kept fit p r sized h.room count e;
+        rows = RowPass.rows_found tree k kept fit p r sized h.room within e;
       }
 
   record Biased (r b : View) : Type 0 where
@@ -306,30 +314,32 @@ module _ (tree : Tree) (row : Row) (k : Constraints Interval) (kept : AreBodies 
     sized : IsSized b
     bias : AreBias k b
 
-  biases : (r b : View) → IsSized r → r.rows ≡ k.rows → bias_of k r ≡ Ok b → Biased r b
-  biases r b sized count e =
-      let f = found _ _ (ordered (BiasPass.call tree k (extent_of r)) (BiasPass.is_call tree k fit (extent_of r) count sized.extent.ascends)) r b (room_for r (extent_of r) sized refl) e in
+  biases : (r b : View) → IsSized r → k.rows ≤ r.rows → bias_of k r ≡ Ok b → Biased r b
+  biases r b sized within e =
+      let f = found _ _ (ordered (BiasPass.call tree k (extent_of r)) (BiasPass.is_call tree k fit (extent_of r) within sized.extent.ascends)) r b (room_for r (extent_of r) sized refl) e in
       record {
         rest = sym (ap (λ (v : View). record v { g = b.g }) f.keeps);
         sized = sized_from b (extent_of r) sized.extent f.fits;
-        bias = BiasPass.bias_found tree k fit r b sized count e;
+        bias = BiasPass.bias_found tree k fit r b sized within e;
       }
 
   rows_told : (p r : View) → Prepared tree row kept k.rows limit p → Filled p r → Told (from_rows r)
   unfolding from_rows
   rows_told p r h f =
-      let count : r.rows ≡ k.rows = ap (λ (v : View). v.rows) f.rest ∙ h.count in
+      let same_rows : r.rows ≡ k.rows = ap (λ (v : View). v.rows) f.rest ∙ h.count in
+      let within : k.rows ≤ r.rows = omega (arith, same_rows) in
       then_told (bias_of k r) (λ b. from_biased b)
-      (λ b e. let g = biases r b f.sized count e in
-      biased_told b (biased_from tree row k p r b h.factored h.driving f.rest f.rows g.rest g.bias) (ap (λ (v : View). v.rows) g.rest ∙ count)
+      (λ b e. let g = biases r b f.sized within e in
+      biased_told b (biased_from tree row k p r b h.factored h.driving f.rest f.rows g.rest g.bias) (subst (λ (n : ℕ). k.rows ≤ n) (sym (ap (λ (v : View). v.rows) g.rest)) within)
       (right_moves tree row k p b (ap (λ (v : View). v.w) g.rest ∙ ap (λ (v : View). v.w) f.rest) (ap (λ (v : View). v.k) g.rest ∙ ap (λ (v : View). v.k) f.rest) h.right) g.sized)
-      (λ e q. bias_refused tree row k p r e h.factored h.driving f.rest f.rows (BiasPass.bias_refused tree k fit r e f.sized count q))
+      (λ e q. bias_refused tree row k p r e h.factored h.driving f.rest f.rows (BiasPass.bias_refused tree k fit r e f.sized within q))
 
   prepared_told : (p : View) → Prepared tree row kept k.rows limit p → Told (from_prepared p)
   unfolding from_prepared
   prepared_told p h =
-      then_told (fills_of tree k p) (λ r. from_rows r) (λ r e. rows_told p r h (fills p r h.sized h.factored h.count e))
-      (λ e q. IsContactRefused.in_rows p h.factored h.driving (RowPass.rows_refused tree k kept fit p e h.sized h.factored.room h.count q))
+      let within : k.rows ≤ p.rows = omega (arith, h.count) in
+      then_told (fills_of tree k p) (λ r. from_rows r) (λ r e. rows_told p r h (fills p r h.sized h.factored within e))
+      (λ e q. IsContactRefused.in_rows p h.factored h.driving (RowPass.rows_refused tree k kept fit p e h.sized h.factored.room within q))
 
   told : Told (contact_of tree row k)
   told =

@@ -1,5 +1,5 @@
 -- The one solution of forward dynamics under rows of constraints of each choice lies in the values of a row.
-use Rattle.std.proofs.Common.{◌≡◌, ◌≤◌, ℕ, sym, ◌∙◌, subst, arith}
+use Rattle.std.proofs.Common.{◌≡◌, ◌≤◌, ℕ, sym, subst, arith}
 use Rattle.rb_frac.specs.Frac.{Frac, Same, fracs}
 use Rattle.rb_frac.specs.Spatial.{Motion, Motions}
 use Rattle.rb_frac.specs.Tables.{Table}
@@ -66,12 +66,12 @@ module _ (tree : Tree) (row : Row) (list : Constraints Interval) (w : View) (are
   abbrev constrained : AreConstrained tree row list before
   constrained = are.forced.free.constrained
 
-  row_factors : HaveRowFactors interval_row_steps (columns_of w) (above w.up) w.rows (L_at w) (D_at w) (J_at w) (compliances list) (Y_at w) (l_at w) (C_at w)
+  row_factors : HaveRowFactors interval_row_steps (columns_of w) (above w.up) list.rows (L_at w) (D_at w) (J_at w) (compliances list) (Y_at w) (l_at w) (C_at w)
   row_factors =
       let h = constrained.coupling in
       record { left = h.left; Z = Z_at w; alone = h.alone; G = h.G; table = h.table; reduced = h.reduced; coupled = h.coupled; eliminated = h.eliminated }
 
-  forces_found : AreForcesFound interval_row_steps (columns_of w) (above w.up) w.rows (L_at w) (D_at w) (Y_at w) (l_at w) (C_at w) (k_at w) (g_at w) (w_at before) (lam_at w)
+  forces_found : AreForcesFound interval_row_steps (columns_of w) (above w.up) list.rows (L_at w) (D_at w) (Y_at w) (l_at w) (C_at w) (k_at w) (g_at w) (w_at before) (lam_at w)
   forces_found =
       let free = are.forced.free in
       let sides = are.forced.row_sides in
@@ -94,7 +94,7 @@ module _ (tree : Tree) (row : Row) (list : Constraints Interval) (w : View) (are
         forces = forces.forces;
       }
 
-  found : IsFoundWithForces interval_row_steps (columns_of w) (above w.up) w.rows (L_at w) (D_at w) (Y_at w) (w_at before) (lam_at w) (x_at w)
+  found : IsFoundWithForces interval_row_steps (columns_of w) (above w.up) list.rows (L_at w) (D_at w) (Y_at w) (w_at before) (lam_at w) (x_at w)
   found = record {
     more = are.added.more;
     added = w_at w;
@@ -124,13 +124,13 @@ module _ (tree : Tree) (row : Row) (list : Constraints Interval) (w : View) (are
     abbrev columns : columns_of w ≡ column_count tree.bodies
     columns = factored.room.up.count
 
-    rows : w.rows ≡ k.rows
-    rows = constrained.count ∙ sym taken.rows
+    rows : list.rows ≡ k.rows
+    rows = sym taken.rows
 
     listed : (r : ℕ) → HasRow k r → HasRow list r
     listed r has = record { from = has.from; to = subst (λ (n : ℕ). r ≤ n) taken.rows has.to }
 
-    row_has : (r : ℕ) → IsRow w.rows r → HasRow k r
+    row_has : (r : ℕ) → IsRow list.rows r → HasRow k r
     row_has r there = record { from = there.from; to = subst (λ (n : ℕ). r ≤ n) rows there.to }
 
     fits : RowsFit (shape_of tree) k
@@ -197,7 +197,7 @@ module _ (tree : Tree) (row : Row) (list : Constraints Interval) (w : View) (are
       abbrev mu : ℕ → Frac
       mu r = (k.numbers r).compliance
 
-      given : AreBorderedWithin (columns_of w) (above w.up) w.rows factors.L factors.D J mu (driving m bias) (row_accelerations k turn bias) (L_at w) (D_at w) (J_at w)
+      given : AreBorderedWithin (columns_of w) (above w.up) list.rows factors.L factors.D J mu (driving m bias) (row_accelerations k turn bias) (L_at w) (D_at w) (J_at w)
           (compliances list) (k_at w) (g_at w)
       given = record {
         factors = factors.within.factors;
@@ -208,9 +208,9 @@ module _ (tree : Tree) (row : Row) (list : Constraints Interval) (w : View) (are
         accelerations = λ r there. accelerates turn lie bias rests r (row_has r there);
       }
 
-      solution : BorderedSolutionLies (columns_of w) w.rows table J mu (driving m bias) (row_accelerations k turn bias) (x_at w) (lam_at w)
+      solution : BorderedSolutionLies (columns_of w) list.rows table J mu (driving m bias) (row_accelerations k turn bias) (x_at w) (lam_at w)
       solution =
-          bordered_encloses (columns_of w) (above w.up) w.rows (L_at w) (D_at w) (J_at w) (compliances list) (Y_at w) (l_at w) (C_at w) (k_at w) (g_at w) (w_at before) (lam_at w) (x_at w)
+          bordered_encloses (columns_of w) (above w.up) list.rows (L_at w) (D_at w) (J_at w) (compliances list) (Y_at w) (l_at w) (C_at w) (k_at w) (g_at w) (w_at before) (lam_at w) (x_at w)
           (regular w.up (ascends tree row before kept factored)) factored.factors.divisors row_factors constrained.coupling.divisors forces_found found
           table factors.L factors.D J mu (driving m bias) (row_accelerations k turn bias) factors.has given
 

@@ -126,35 +126,35 @@ row_long up table J r s t h =
     let second : length s.1 ≡ length c.0 = kept long (C.divide_step up table b.0 r) (row_divide_long up table b.0 r) (upward 1 (length up + 1)) s.1 c.0 c.1 in
     ap₂ (λ (x y : ℕ). (x, y)) first second ∙ ap both (same_ok {E = RowFault} (b.0, c.0) t c.2)
 
-couple_long : (n R : ℕ) (mus Y Z : List Interval) (q r : ℕ) (s t : List Interval) → C.couple_step n R mus Y Z q r s ≡ Ok t → long s ≡ long t
+couple_long : (n room : ℕ) (mus Y Z : List Interval) (q r : ℕ) (s t : List Interval) → C.couple_step n room mus Y Z q r s ≡ Ok t → long s ≡ long t
 unfolding C.couple_step
-couple_long n R mus Y Z q r s t h = put _ _ s t h
+couple_long n room mus Y Z q r s t h = put _ _ s t h
 
-couple_row_long : (n R : ℕ) (mus Y Z : List Interval) (q : ℕ) (s t : List Interval) → C.couple_row_step n R mus Y Z q s ≡ Ok t → long s ≡ long t
+couple_row_long : (n room : ℕ) (mus Y Z : List Interval) (q : ℕ) (s t : List Interval) → C.couple_row_step n room mus Y Z q s ≡ Ok t → long s ≡ long t
 unfolding C.couple_row_step
-couple_row_long n R mus Y Z q s t h = kept long (C.couple_step n R mus Y Z q) (couple_long n R mus Y Z q) (upward 1 (q + 1)) s t h
+couple_row_long n room mus Y Z q s t h = kept long (C.couple_step n room mus Y Z q) (couple_long n room mus Y Z q) (upward 1 (q + 1)) s t h
 
-quotient_long : (R r : ℕ) (p : Interval) (q : ℕ) (s t : List Interval) → C.quotient_step R r p q s ≡ Ok t → long s ≡ long t
+quotient_long : (room r : ℕ) (p : Interval) (q : ℕ) (s t : List Interval) → C.quotient_step room r p q s ≡ Ok t → long s ≡ long t
 unfolding C.quotient_step
-quotient_long R r p q s t h =
-    let a = then-ok (named_as (two K.l q r) (iv_div (C.cell_at R s q r) p)) _ t h in
+quotient_long room r p q s t h =
+    let a = then-ok (named_as (two K.l q r) (iv_div (C.cell_at room s q r) p)) _ t h in
     set_long s _ _ ∙ set_long _ _ a.0 ∙ ap long (same_ok {E = RowFault} _ t a.2)
 
-lessen_long : (R r q i : ℕ) (s t : List Interval) → C.update_step R r q i s ≡ Ok t → long s ≡ long t
+lessen_long : (room r q i : ℕ) (s t : List Interval) → C.update_step room r q i s ≡ Ok t → long s ≡ long t
 unfolding C.update_step
-lessen_long R r q i s t h = put _ _ s t h
+lessen_long room r q i s t h = put _ _ s t h
 
-lessen_row_long : (R r q : ℕ) (s t : List Interval) → C.update_row_step R r q s ≡ Ok t → long s ≡ long t
+lessen_row_long : (room r q : ℕ) (s t : List Interval) → C.update_row_step room r q s ≡ Ok t → long s ≡ long t
 unfolding C.update_row_step
-lessen_row_long R r q s t h = kept long (C.update_step R r q) (lessen_long R r q) (upward (r + 1) (q + 1)) s t h
+lessen_row_long room r q s t h = kept long (C.update_step room r q) (lessen_long room r q) (upward (r + 1) (q + 1)) s t h
 
-eliminate_long : (R r : ℕ) (s t : List Interval) → C.eliminate_step R r s ≡ Ok t → long s ≡ long t
+eliminate_long : (room R r : ℕ) (s t : List Interval) → C.eliminate_step room R r s ≡ Ok t → long s ≡ long t
 unfolding C.eliminate_step
-eliminate_long R r s t h =
-    let a = then-ok (pivot_as (one K.C r) (C.cell_at R s r r)) (λ p. C.quotients_of R r p s >>= λ u. C.updates_of R r u) t h in
-    let b = then-ok (C.quotients_of R r a.0 s) (λ u. C.updates_of R r u) t a.2 in
-    kept long (C.quotient_step R r a.0) (quotient_long R r a.0) (upward (r + 1) (R + 1)) s b.0 b.1
-    ∙ kept long (C.update_row_step R r) (lessen_row_long R r) (upward (r + 1) (R + 1)) b.0 t b.2
+eliminate_long room R r s t h =
+    let a = then-ok (pivot_as (one K.C r) (C.cell_at room s r r)) (λ p. C.quotients_of room R r p s >>= λ u. C.updates_of room R r u) t h in
+    let b = then-ok (C.quotients_of room R r a.0 s) (λ u. C.updates_of room R r u) t a.2 in
+    kept long (C.quotient_step room r a.0) (quotient_long room r a.0) (upward (r + 1) (R + 1)) s b.0 b.1
+    ∙ kept long (C.update_row_step room r) (lessen_row_long room r) (upward (r + 1) (R + 1)) b.0 t b.2
 
 abbrev pub Three : Type 0
 Three = List Interval × List Interval × List Interval
@@ -164,20 +164,20 @@ pub record ThreeLong (s t : Three) : Type 0 where
   pub Z : length s.1 ≡ length t.1
   pub pairs : length s.2 ≡ length t.2
 
-pub coupling_long : (up : List ℕ) (R : ℕ) (table J mus : List Interval) (s t : Three) → C.couple_of up R table J mus s ≡ Ok t → ThreeLong s t
+pub coupling_long : (up : List ℕ) (room R : ℕ) (table J mus : List Interval) (s t : Three) → C.couple_of up room R table J mus s ≡ Ok t → ThreeLong s t
 unfolding C.couple_of
-coupling_long up R table J mus s t h =
+coupling_long up room R table J mus s t h =
     let a = then-ok (C.rows_of up R table J (s.0, s.1)) _ t h in
-    let b = then-ok (C.coupled_of (length up) R mus a.0.0 a.0.1 s.2) _ t a.2 in
-    let c = then-ok (C.eliminated_of R b.0) _ t b.2 in
+    let b = then-ok (C.coupled_of (length up) room R mus a.0.0 a.0.1 s.2) _ t a.2 in
+    let c = then-ok (C.eliminated_of room R b.0) _ t b.2 in
     let e : (a.0.0, a.0.1, c.0) ≡ t = same_ok {E = RowFault} _ t c.2 in
     let rows : both (s.0, s.1) ≡ both a.0 = kept both (C.row_step up table J) (row_long up table J) (upward 1 (R + 1)) (s.0, s.1) a.0 a.1 in
     record {
       Y = ap (λ (p : ℕ × ℕ). p.0) rows ∙ ap (λ (u : Three). length u.0) e;
       Z = ap (λ (p : ℕ × ℕ). p.1) rows ∙ ap (λ (u : Three). length u.1) e;
       pairs =
-          kept long (C.couple_row_step (length up) R mus a.0.0 a.0.1) (couple_row_long (length up) R mus a.0.0 a.0.1) (upward 1 (R + 1)) s.2 b.0 b.1
-          ∙ kept long (C.eliminate_step R) (eliminate_long R) (upward 1 (R + 1)) b.0 c.0 c.1
+          kept long (C.couple_row_step (length up) room mus a.0.0 a.0.1) (couple_row_long (length up) room mus a.0.0 a.0.1) (upward 1 (R + 1)) s.2 b.0 b.1
+          ∙ kept long (C.eliminate_step room R) (eliminate_long room R) (upward 1 (R + 1)) b.0 c.0 c.1
           ∙ ap (λ (u : Three). length u.2) e;
     }
 
@@ -191,39 +191,46 @@ side_long n Y z g r s t h =
 pub sides_long : (n R : ℕ) (Y z g s t : List Interval) → C.sides_of n R Y z g s ≡ Ok t → length s ≡ length t
 sides_long n R Y z g s t h = kept long (C.side_step n Y z g) (side_long n Y z g) (upward 1 (R + 1)) s t h
 
-lessen_side_long : (R : ℕ) (pairs : List Interval) (r : ℕ) (own : Interval) (q : ℕ) (s t : List Interval) → C.lessen_step R pairs r own q s ≡ Ok t → long s ≡ long t
+lessen_side_long : (room : ℕ) (pairs : List Interval) (r : ℕ) (own : Interval) (q : ℕ) (s t : List Interval) → C.lessen_step room pairs r own q s ≡ Ok t → long s ≡ long t
 unfolding C.lessen_step
-lessen_side_long R pairs r own q s t h = put _ q s t h
+lessen_side_long room pairs r own q s t h = put _ q s t h
 
-lessen_sides_long : (R : ℕ) (pairs : List Interval) (r : ℕ) (s t : List Interval) → C.lessen_row_step R pairs r s ≡ Ok t → long s ≡ long t
+lessen_sides_long : (room R : ℕ) (pairs : List Interval) (r : ℕ) (s t : List Interval) → C.lessen_row_step room R pairs r s ≡ Ok t → long s ≡ long t
 unfolding C.lessen_row_step
-lessen_sides_long R pairs r s t h = kept long (C.lessen_step R pairs r (F.number_at s r)) (lessen_side_long R pairs r (F.number_at s r)) (upward (r + 1) (R + 1)) s t h
+lessen_sides_long room R pairs r s t h =
+    kept long (C.lessen_step room pairs r (F.number_at s r)) (lessen_side_long room pairs r (F.number_at s r)) (upward (r + 1) (R + 1)) s t h
 
-divide_side_long : (R : ℕ) (pairs : List Interval) (r : ℕ) (s t : List Interval) → C.right_divide_step R pairs r s ≡ Ok t → long s ≡ long t
+divide_side_long : (room : ℕ) (pairs : List Interval) (r : ℕ) (s t : List Interval) → C.right_divide_step room pairs r s ≡ Ok t → long s ≡ long t
 unfolding C.right_divide_step
-divide_side_long R pairs r s t h = put _ r s t h
+divide_side_long room pairs r s t h = put _ r s t h
 
-force_long : (R : ℕ) (pairs e : List Interval) (r : ℕ) (s t : List Interval) → C.force_step R pairs e r s ≡ Ok t → long s ≡ long t
+force_long : (room R : ℕ) (pairs e : List Interval) (r : ℕ) (s t : List Interval) → C.force_step room R pairs e r s ≡ Ok t → long s ≡ long t
 unfolding C.force_step
-force_long R pairs e r s t h = put _ r s t h
+force_long room R pairs e r s t h = put _ r s t h
+
+keep_long : (lam : List Interval) (r : ℕ) (s t : List Interval) → C.keep_step lam r s ≡ Ok t → long s ≡ long t
+unfolding C.keep_step
+keep_long lam r s t h = set_long s r _ ∙ ap long (same_ok {E = RowFault} _ t h)
 
 pub record TwoLong (s t : Two) : Type 0 where
   pub e : length s.0 ≡ length t.0
   pub lam : length s.1 ≡ length t.1
 
-pub row_forces_long : (R : ℕ) (pairs : List Interval) (s t : Two) → C.row_forces_of R pairs s ≡ Ok t → TwoLong s t
+pub row_forces_long : (room R : ℕ) (pairs : List Interval) (s t : Two) → C.row_forces_of room R pairs s ≡ Ok t → TwoLong s t
 unfolding C.row_forces_of
-row_forces_long R pairs s t h =
-    let a = then-ok (C.right_reduced_of R pairs s.0) _ t h in
-    let b = then-ok (C.right_divided_of R pairs a.0) _ t a.2 in
-    let c = then-ok (C.forces_of R pairs b.0 s.1) _ t b.2 in
-    let e : (b.0, c.0) ≡ t = same_ok {E = RowFault} _ t c.2 in
+row_forces_long room R pairs s t h =
+    let a = then-ok (C.right_reduced_of room R pairs s.0) _ t h in
+    let b = then-ok (C.right_divided_of room R pairs a.0) _ t a.2 in
+    let c = then-ok (C.forces_of room R pairs b.0 s.1) _ t b.2 in
+    let d = then-ok (C.kept_of R c.0 b.0) _ t c.2 in
+    let e : (d.0, c.0) ≡ t = same_ok {E = RowFault} _ t d.2 in
     record {
       e =
-          kept long (C.lessen_row_step R pairs) (lessen_sides_long R pairs) (upward 1 (R + 1)) s.0 a.0 a.1
-          ∙ kept long (C.right_divide_step R pairs) (divide_side_long R pairs) (upward 1 (R + 1)) a.0 b.0 b.1
+          kept long (C.lessen_row_step room R pairs) (lessen_sides_long room R pairs) (upward 1 (R + 1)) s.0 a.0 a.1
+          ∙ kept long (C.right_divide_step room pairs) (divide_side_long room pairs) (upward 1 (R + 1)) a.0 b.0 b.1
+          ∙ kept long (C.keep_step c.0) (keep_long c.0) (upward 1 (R + 1)) b.0 d.0 d.1
           ∙ ap (λ (u : Two). length u.0) e;
-      lam = kept long (C.force_step R pairs b.0) (force_long R pairs b.0) (downward 1 (R + 1)) s.1 c.0 c.1 ∙ ap (λ (u : Two). length u.1) e;
+      lam = kept long (C.force_step room R pairs b.0) (force_long room R pairs b.0) (downward 1 (R + 1)) s.1 c.0 c.1 ∙ ap (λ (u : Two). length u.1) e;
     }
 
 add_long : (n R : ℕ) (Y lam : List Interval) (c : ℕ) (s t : List Interval) → C.add_step n R Y lam c s ≡ Ok t → long s ≡ long t

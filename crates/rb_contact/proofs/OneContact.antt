@@ -171,16 +171,16 @@ module _ (tree : Tree) (row : Row) (k : Constraints Interval) (kept : AreBodies 
       (right_same u w hu.constrained hw.constrained hu.reduced hw.reduced) (divided_at u hu.constrained hu.divided) (divided_at w hw.constrained hw.divided)
 
   -- ---- the right sides of the rows
-  sides_at : (w s : View) → AreConstrained tree row k w → (h : HoldsRowSides w s) → AreRowSides interval_row_steps n R (Y_at w) (z_at w) (g_at w) h.without h.total (e_at s)
+  sides_at : (w s : View) → AreConstrained tree row k w → (h : HoldsRowSides k.rows w s) → AreRowSides interval_row_steps n R (Y_at w) (z_at w) (g_at w) h.without h.total (e_at s)
   sides_at w s c h = seen_rows w c (λ m a r. AreRowSides interval_row_steps m r (Y_at w) (z_at w) (g_at w) h.without h.total (e_at s)) h.are
 
-  side_total : (w s : View) → AreConstrained tree row k w → (h : HoldsRowSides w s) → (r : ℕ) → IsRow R r → IsTotal (g_at w r) n (Y_at w r) (z_at w) (h.total r)
+  side_total : (w s : View) → AreConstrained tree row k w → (h : HoldsRowSides k.rows w s) → (r : ℕ) → IsRow R r → IsTotal (g_at w r) n (Y_at w r) (z_at w) (h.total r)
   side_total w s c h r there = let a = sides_at w s c h in record { sum = h.without r; sums = a.sums r there; adds = a.totals r there }
 
   own_accelerations : (u w : View) → AreConstrained tree row k u → AreConstrained tree row k w → SameNumbers R (g_at u) (g_at w)
   own_accelerations u w hu hw = accelerations u w hu.factored hw.factored hu.rows hw.rows hu.bias hw.bias
 
-  sides_same : (u s w t : View) → AreFree tree row k u → HoldsRowSides u s → AreFree tree row k w → HoldsRowSides w t → SameNumbers R (e_at s) (e_at t)
+  sides_same : (u s w t : View) → AreFree tree row k u → HoldsRowSides k.rows u s → AreFree tree row k w → HoldsRowSides k.rows w t → SameNumbers R (e_at s) (e_at t)
   sides_same u s w t hu su hw tw r there =
       let cu = hu.constrained in
       let cw = hw.constrained in
@@ -189,14 +189,14 @@ module _ (tree : Tree) (row : Row) (k : Constraints Interval) (kept : AreBodies 
       (su.total r) (tw.total r) (side_total u s cu su r there) (side_total w t cw tw r there) in
       (sides_at u s cu su).negatives r there ∙ ap negative_of same ∙ sym ((sides_at w t cw tw).negatives r there)
 
-  first_side : (w : View) (e : RowFault) → AreConstrained tree row k w → RefusesRowSides w e → IsRowSideRefused n R (Y_at w) (z_at w) (g_at w) e
+  first_side : (w : View) (e : RowFault) → AreConstrained tree row k w → RefusesRowSides k.rows w e → IsRowSideRefused n R (Y_at w) (z_at w) (g_at w) e
   first_side w e c r = seen_rows w c (λ m a q. IsRowSideRefused m q (Y_at w) (z_at w) (g_at w) e) r
 
   abbrev side_first : (w : View) (e : RowFault) → IsRowSideRefused n R (Y_at w) (z_at w) (g_at w) e → IsFirstTotal R n (g_at w) (Y_at w) (z_at w)
   side_first w e r = record { at = r.row; there = r.there; until = r.until; refused = r.refused }
 
   -- ---- the forces of the rows
-  one_force : (u s w t : View) → AreFree tree row k u → HoldsRowSides u s → AreFree tree row k w → HoldsRowSides w t
+  one_force : (u s w t : View) → AreFree tree row k u → HoldsRowSides k.rows u s → AreFree tree row k w → HoldsRowSides k.rows w t
       → HaveOneForces R (l_at u) (l_at w) (C_at u) (C_at w) (e_at s) (e_at t)
   one_force u s w t hu su hw tw =
       forces_are_one R (l_at u) (l_at w) (C_at u) (C_at w) (e_at s) (e_at t) (l_same u w hu.constrained hw.constrained) (C_same u w hu.constrained hw.constrained)
@@ -253,14 +253,14 @@ module _ (tree : Tree) (row : Row) (k : Constraints Interval) (kept : AreBodies 
   room_behind : (w : View) (right quotients : List Interval) → AreForced tree row k (before w right quotients) → IsFor tree w
   room_behind w right quotients h = let room = h.free.constrained.factored.room in record { bodies = room.bodies; full = room.full; up = room.up }
 
-  added_at : (w : View) (right quotients : List Interval) → AreForced tree row k (before w right quotients) → (h : HoldsAddedForces (record w { w = right }) w)
+  added_at : (w : View) (right quotients : List Interval) → AreForced tree row k (before w right quotients) → (h : HoldsAddedForces k.rows (record w { w = right }) w)
       → AreForcesAdded interval_row_steps n R (Y_at w) (w_at (before w right quotients)) (lam_at w) h.more (w_at w)
   added_at w right quotients f h =
       seen_rows (before w right quotients) f.free.constrained
       (λ m a r. AreForcesAdded interval_row_steps m r (Y_at w) (w_at (before w right quotients)) (lam_at w) h.more (w_at w)) h.are
 
-  module _ (u : View) (right quotients : List Interval) (hu : AreForced tree row k (before u right quotients)) (au : HoldsAddedForces (record u { w = right }) u)
-      (w : View) (right' quotients' : List Interval) (hw : AreForced tree row k (before w right' quotients')) (aw : HoldsAddedForces (record w { w = right' }) w) where
+  module _ (u : View) (right quotients : List Interval) (hu : AreForced tree row k (before u right quotients)) (au : HoldsAddedForces k.rows (record u { w = right }) u)
+      (w : View) (right' quotients' : List Interval) (hw : AreForced tree row k (before w right' quotients')) (aw : HoldsAddedForces k.rows (record w { w = right' }) w) where
     abbrev cu : AreConstrained tree row k (before u right quotients)
     cu = hu.free.constrained
 
@@ -327,34 +327,34 @@ module _ (tree : Tree) (row : Row) (k : Constraints Interval) (kept : AreBodies 
   Free = (w : View) × AreFree tree row k w
 
   abbrev InSides : RowFault → Type 0
-  InSides e = (w : View) × AreFree tree row k w × RefusesRowSides w e
+  InSides e = (w : View) × AreFree tree row k w × RefusesRowSides k.rows w e
 
   abbrev Sided : Type 0
-  Sided = (w : View) × AreFree tree row k w × HoldsRowSides w w
+  Sided = (w : View) × AreFree tree row k w × HoldsRowSides k.rows w w
 
   abbrev InForces : RowFault → Type 0
-  InForces e = (w : View) × AreFree tree row k w × HoldsRowSides w w × RefusesRowForces w e
+  InForces e = (w : View) × AreFree tree row k w × HoldsRowSides k.rows w w × RefusesRowForces k.rows w e
 
   abbrev Forced : Type 0
   Forced = (w : View) × AreForced tree row k w
 
   abbrev InAddition : RowFault → Type 0
-  InAddition e = (w : View) × AreForced tree row k w × RefusesAddedForces w e
+  InAddition e = (w : View) × AreForced tree row k w × RefusesAddedForces k.rows w e
 
   abbrev Added : Type 0
-  Added = (w : View) × (right : List Interval) × (quotients : List Interval) × AreForced tree row k (before w right quotients) × HoldsAddedForces (record w { w = right }) w
+  Added = (w : View) × (right : List Interval) × (quotients : List Interval) × AreForced tree row k (before w right quotients) × HoldsAddedForces k.rows (record w { w = right }) w
 
   abbrev InSecond : RowFault → Type 0
   InSecond e =
-      (w : View) × (right : List Interval) × (quotients : List Interval) × AreForced tree row k (before w right quotients) × HoldsAddedForces (record w { w = right }) w × RefusesDivide w e
+      (w : View) × (right : List Interval) × (quotients : List Interval) × AreForced tree row k (before w right quotients) × HoldsAddedForces k.rows (record w { w = right }) w × RefusesDivide w e
 
   abbrev Divided : Type 0
   Divided =
-      (w : View) × (right : List Interval) × (quotients : List Interval) × AreForced tree row k (before w right quotients) × HoldsAddedForces (record w { w = right }) w × HoldsDivided w w
+      (w : View) × (right : List Interval) × (quotients : List Interval) × AreForced tree row k (before w right quotients) × HoldsAddedForces k.rows (record w { w = right }) w × HoldsDivided w w
 
   abbrev InSubstitution : RowFault → Type 0
   InSubstitution e =
-      (w : View) × (right : List Interval) × (quotients : List Interval) × AreForced tree row k (before w right quotients) × HoldsAddedForces (record w { w = right }) w × HoldsDivided w w
+      (w : View) × (right : List Interval) × (quotients : List Interval) × AreForced tree row k (before w right quotients) × HoldsAddedForces k.rows (record w { w = right }) w × HoldsDivided w w
       × RefusesSubstitute w e
 
   -- ---- none is refused whose value is there, and there is one refusal
@@ -430,7 +430,7 @@ module _ (tree : Tree) (row : Row) (k : Constraints Interval) (kept : AreBodies 
       (side_first r.0 d f) (side_first q.0 e g) in
       f.named ∙ ap (λ (i : ℕ). Size (one K.e i)) same ∙ sym g.named
 
-  forces_at : (w : View) (e : RowFault) → AreConstrained tree row k w → RefusesRowForces w e → IsForceRefused R (l_at w) (C_at w) (e_at w) e
+  forces_at : (w : View) (e : RowFault) → AreConstrained tree row k w → RefusesRowForces k.rows w e → IsForceRefused R (l_at w) (C_at w) (e_at w) e
   forces_at w e c r = seen_rows w c (λ m a q. IsForceRefused q (l_at w) (C_at w) (e_at w) e) r
 
   no_forces : (e : RowFault) → Forced → InForces e → ⊥
@@ -444,7 +444,7 @@ module _ (tree : Tree) (row : Row) (k : Constraints Interval) (kept : AreBodies 
   one_forces d e r q =
       (one_force r.0 r.0 q.0 q.0 r.1 r.2 q.1 q.2).refusal d e (forces_at r.0 d r.1.constrained r.3) (forces_at q.0 e q.1.constrained q.3)
 
-  addition_at : (w : View) (e : RowFault) → AreForced tree row k w → RefusesAddedForces w e → IsAddRefused n R (Y_at w) (w_at w) (lam_at w) e
+  addition_at : (w : View) (e : RowFault) → AreForced tree row k w → RefusesAddedForces k.rows w e → IsAddRefused n R (Y_at w) (w_at w) (lam_at w) e
   addition_at w e h r = seen_rows w h.free.constrained (λ m a q. IsAddRefused m q (Y_at w) (w_at w) (lam_at w) e) r
 
   abbrev addition_first : (w : View) (e : RowFault) → IsAddRefused n R (Y_at w) (w_at w) (lam_at w) e → IsFirstTotal n R (w_at w) (by_column w) (lam_at w)

@@ -125,8 +125,8 @@ bias_stays k u w h = record { each_g = h.each_g }
 abbrev coupled : View → View → View
 coupled u w = record u { w = w.w; z = w.z; x = w.x; e = w.e; lam = w.lam }
 
-pub coupling_stays : (mu : ℕ → Interval) (u w : View) → HoldsCoupling u u mu → HoldsCoupling (coupled u w) (coupled u w) mu
-coupling_stays mu u w h = record {
+pub coupling_stays : (R : ℕ) (mu : ℕ → Interval) (u w : View) → HoldsCoupling R u u mu → HoldsCoupling R (coupled u w) (coupled u w) mu
+coupling_stays R mu u w h = record {
   left = h.left;
   alone = h.alone;
   G = h.G;
@@ -144,7 +144,7 @@ constrained_stays tree row k u w h = record {
   count = h.count;
   rows = rows_stay tree k u (coupled u w) h.rows;
   bias = bias_stays k u (coupled u w) h.bias;
-  coupling = coupling_stays (compliances k) u w h.coupling;
+  coupling = coupling_stays k.rows (compliances k) u w h.coupling;
 }
 
 -- what the factors find without forces, behind which are the sides, the forces and the accelerations

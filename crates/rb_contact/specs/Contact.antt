@@ -1,6 +1,6 @@
 -- Forward dynamics of a row under rows of constraints: the values that a work holds, what is refused first, and what the values enclose. Featherstone,
 -- Rigid Body Dynamics Algorithms, chapter 8.
-use Rattle.std.specs.Prelude.{◌≡◌, ◌↔◌, ℕ, ◌+◌, List, map, Result, Ok, Err}
+use Rattle.std.specs.Prelude.{◌≡◌, ◌↔◌, ℕ, ◌+◌, ◌≤◌, List, map, Result, Ok, Err}
 use Rattle.rb_num.specs.Interval.{Interval}
 use Rattle.rb_num.specs.Fraction.{LiesIn}
 use Rattle.rb_frac.specs.Frac.{Frac, Same, fracs}

@@ -1,10 +1,10 @@
-use Rattle.std.proofs.Common.{◌≡◌, ap, ◌∙◌, sym}
+use Rattle.std.proofs.Common.{◌≡◌, ◌≤◌, ℕ, length, ap, ◌∙◌, sym, subst}
 use Rattle.std.proofs.lemmas.Result.{err_from_is_err_and, on_ok_weaker, IfErr-weaker}
 use Rattle.rb_work.specs.View.{View, extent_of}
 use Rattle.rb_constraint.specs.Constraints.{constraints_of}
 use Rattle.rb_coupling.specs.Couple.{RefusesCouple}
 use Rattle.rb_contact.specs.Contact.{IsContactRefused}
-use Rattle.rb_contact.proofs.Assembled.{room_same}
+use Rattle.rb_contact.proofs.Assembled.{room_same, rows_within}
 use Rattle.rb_contact.proofs.Constrained.{compliances_are}
 use Rattle.rb_contact.proofs.Contacted.{right_moves, bias_refused, biased_from, biased_divisors, couple_refused, constrained_from}
 use Rattle.rb_contact.proofs.contacts.constrained.Goals as goal
@@ -23,7 +23,7 @@ fill_rows-requires-clause-room c =
 
 pub fill_rows-requires-clause-rows : goal.fill_rows-requires-clause-rows
 fill_rows-requires-clause-rows c =
-    ap (λ (v : View). v.rows) c.prepared.ensures.others ∙ c.requires.rows
+    rows_within (constraints_of c.args.cons.now).rows c.args.work.now c.prepared.new.work (ap (λ (v : View). v.rows) c.prepared.ensures.others) c.requires.rows
 
 pub returns-in_err-fill_rows-clause-refused : goal.returns-in_err-fill_rows-clause-refused
 returns-in_err-fill_rows-clause-refused c =
@@ -39,7 +39,8 @@ fill_bias-requires-clause-room c =
 
 pub fill_bias-requires-clause-rows : goal.fill_bias-requires-clause-rows
 fill_bias-requires-clause-rows c =
-    ap (λ (v : View). v.rows) c.fill_rows.ensures.others ∙ ap (λ (v : View). v.rows) c.prepared.ensures.others ∙ c.requires.rows
+    rows_within (constraints_of c.args.cons.now).rows c.args.work.now c.fill_rows.new.work
+    (ap (λ (v : View). v.rows) c.fill_rows.ensures.others ∙ ap (λ (v : View). v.rows) c.prepared.ensures.others) c.requires.rows
 
 pub returns-in_err-fill_bias-clause-refused : goal.returns-in_err-fill_bias-clause-refused
 returns-in_err-fill_bias-clause-refused c =
@@ -66,9 +67,10 @@ pub couple-requires-clause-compliances : goal.couple-requires-clause-compliances
 couple-requires-clause-compliances c =
     let k = constraints_of c.args.cons.now in
     let b = c.fill_bias.new.work in
-    let count : b.rows ≡ k.rows =
-    ap (λ (v : View). v.rows) c.fill_bias.ensures.others ∙ ap (λ (v : View). v.rows) c.fill_rows.ensures.others ∙ ap (λ (v : View). v.rows) c.prepared.ensures.others ∙ c.requires.rows in
-    c.compliances-compliances.ensures.count ∙ sym count
+    let within : k.rows ≤ b.rows =
+    rows_within k.rows c.args.work.now b
+    (ap (λ (v : View). v.rows) c.fill_bias.ensures.others ∙ ap (λ (v : View). v.rows) c.fill_rows.ensures.others ∙ ap (λ (v : View). v.rows) c.prepared.ensures.others) c.requires.rows in
+    subst (λ (n : ℕ). n ≤ b.rows) (sym c.compliances-compliances.ensures.count) within
 
 pub returns-clause-values : goal.returns-clause-values
 returns-clause-values c =
@@ -80,11 +82,13 @@ returns-clause-values c =
     let b = c.fill_bias.new.work in
     let done = c.in_ok-prepared.ensures in
     let biased = biased_from tree row k p r b done.factored done.driving c.fill_rows.ensures.others c.in_ok-fill_rows.ensures.values c.fill_bias.ensures.others c.in_ok-fill_bias.ensures.values in
-    let count : b.rows ≡ k.rows =
-    ap (λ (v : View). v.rows) c.fill_bias.ensures.others ∙ ap (λ (v : View). v.rows) c.fill_rows.ensures.others ∙ ap (λ (v : View). v.rows) c.prepared.ensures.others ∙ c.requires.rows in
+    let within : k.rows ≤ b.rows =
+    rows_within k.rows c.args.work.now b
+    (ap (λ (v : View). v.rows) c.fill_bias.ensures.others ∙ ap (λ (v : View). v.rows) c.fill_rows.ensures.others ∙ ap (λ (v : View). v.rows) c.prepared.ensures.others) c.requires.rows in
+    let count : length c.compliances-compliances.result.now ≡ k.rows = c.compliances-compliances.ensures.count in
     let mus = c.compliances-compliances.result.now in
     let same = compliances_are k mus c.compliances-compliances.ensures.each in
-    on_ok_weaker c.couple.result (λ h. constrained_from tree row k b c.couple.new.work mus biased count same c.couple.ensures.others h) c.couple.ensures.values
+    on_ok_weaker c.couple.result (λ h. constrained_from tree row k b c.couple.new.work mus biased within count same c.couple.ensures.others h) c.couple.ensures.values
 
 pub returns-clause-right : goal.returns-clause-right
 returns-clause-right c =
@@ -109,8 +113,7 @@ returns-clause-refused c =
     let b = c.fill_bias.new.work in
     let done = c.in_ok-prepared.ensures in
     let biased = biased_from tree row k p r b done.factored done.driving c.fill_rows.ensures.others c.in_ok-fill_rows.ensures.values c.fill_bias.ensures.others c.in_ok-fill_bias.ensures.values in
-    let count : b.rows ≡ k.rows =
-    ap (λ (v : View). v.rows) c.fill_bias.ensures.others ∙ ap (λ (v : View). v.rows) c.fill_rows.ensures.others ∙ ap (λ (v : View). v.rows) c.prepared.ensures.others ∙ c.requires.rows in
+    let count : length c.compliances-compliances.result.now ≡ k.rows = c.compliances-compliances.ensures.count in
     let mus = c.compliances-compliances.result.now in
     let same = compliances_are k mus c.compliances-compliances.ensures.each in
     IfErr-weaker c.couple.result (RefusesCouple b mus) (IsContactRefused tree row k) (λ e h. couple_refused tree row k b mus e biased count same h) c.couple.ensures.refused

@@ -1,6 +1,8 @@
+use Rattle.std.proofs.Common.{ℕ, subst}
 use Rattle.std.proofs.lemmas.Result.{err_from_is_err_and, on_ok_weaker, IfErr-weaker}
 use Rattle.rb_factor.specs.Solve.{RefusesSubstitute}
 use Rattle.rb_constraint.specs.Constraints.{constraints_of}
+use Rattle.rb_coupling.specs.Forces.{HoldsAddedForces, RefusesAddedForces}
 use Rattle.rb_contact.specs.Contact.{IsContactRefused}
 use Rattle.rb_contact.proofs.Contacted.{second_divisors, second_refused, last_refused, contact_from}
 use Rattle.rb_contact.proofs.ContactAnswer.{few_rows, contact_refused_is, told_contact}
@@ -13,7 +15,7 @@ returns-in_err-add_row_forces-clause-refused c =
     let row = c.args.state.now in
     let k = constraints_of c.args.cons.now in
     let p = err_from_is_err_and c.from_residual-in_err-add_row_forces.result c.from_residual-in_err-add_row_forces.ensures.1 in
-    rw (p.1, p.2) (IsContactRefused.in_addition c.forced.new.work c.in_ok-forced.ensures.values c.in_err-add_row_forces.ensures.refused)
+    rw (p.1, p.2) (IsContactRefused.in_addition c.forced.new.work c.in_ok-forced.ensures.values (subst (λ (n : ℕ). RefusesAddedForces n c.forced.new.work c.in_err-add_row_forces.field-0.0) c.rows.ensures.count c.in_err-add_row_forces.ensures.refused))
 
 pub divide-requires : goal.divide-requires
 divide-requires c =
@@ -29,7 +31,7 @@ returns-in_err-divide-clause-refused c =
     let k = constraints_of c.args.cons.now in
     let p = err_from_is_err_and c.from_residual-in_err-divide.result c.from_residual-in_err-divide.ensures.1 in
     rw (p.1, p.2) (second_refused tree row k c.forced.new.work c.add_row_forces.new.work _ c.in_ok-forced.ensures.values c.add_row_forces.ensures.others
-    c.in_ok-add_row_forces.ensures.values c.in_err-divide.ensures.refused)
+    (subst (λ (n : ℕ). HoldsAddedForces n c.forced.new.work c.add_row_forces.new.work) c.rows.ensures.count c.in_ok-add_row_forces.ensures.values) c.in_err-divide.ensures.refused)
 
 pub returns-clause-values : goal.returns-clause-values
 returns-clause-values c =
@@ -40,7 +42,7 @@ returns-clause-values c =
     let a = c.add_row_forces.new.work in
     let d = c.divide.new.work in
     on_ok_weaker c.substitute.result
-    (λ h. contact_from tree row k f a d c.in_ok-forced.ensures.values c.add_row_forces.ensures.others c.in_ok-add_row_forces.ensures.values c.divide.ensures.others c.in_ok-divide.ensures.values c.substitute.new.work
+    (λ h. contact_from tree row k f a d c.in_ok-forced.ensures.values c.add_row_forces.ensures.others (subst (λ (n : ℕ). HoldsAddedForces n c.forced.new.work c.add_row_forces.new.work) c.rows.ensures.count c.in_ok-add_row_forces.ensures.values) c.divide.ensures.others c.in_ok-divide.ensures.values c.substitute.new.work
     c.substitute.ensures.others h)
     c.substitute.ensures.values
 
@@ -53,7 +55,7 @@ returns-clause-refused c =
     let a = c.add_row_forces.new.work in
     let d = c.divide.new.work in
     IfErr-weaker c.substitute.result (RefusesSubstitute d) (IsContactRefused tree row k)
-    (λ e h. last_refused tree row k f a d c.in_ok-forced.ensures.values c.add_row_forces.ensures.others c.in_ok-add_row_forces.ensures.values c.divide.ensures.others c.in_ok-divide.ensures.values e h)
+    (λ e h. last_refused tree row k f a d c.in_ok-forced.ensures.values c.add_row_forces.ensures.others (subst (λ (n : ℕ). HoldsAddedForces n c.forced.new.work c.add_row_forces.new.work) c.rows.ensures.count c.in_ok-add_row_forces.ensures.values) c.divide.ensures.others c.in_ok-divide.ensures.values e h)
     c.substitute.ensures.refused
 
 pub returns-in_err-forced-clause-answer : goal.returns-in_err-forced-clause-answer
@@ -72,7 +74,7 @@ returns-in_err-add_row_forces-clause-answer c =
     let k = constraints_of c.args.cons.now in
     let limit = few_rows c.args.work.now k c.requires.rows c.bodies-sizes.ensures.sized in
     let p = err_from_is_err_and c.from_residual-in_err-add_row_forces.result c.from_residual-in_err-add_row_forces.ensures.1 in
-    rw (p.1, p.2) (contact_refused_is tree row k c.bodies-tree.ensures.kept c.requires.fit limit _ (IsContactRefused.in_addition c.forced.new.work c.in_ok-forced.ensures.values c.in_err-add_row_forces.ensures.refused))
+    rw (p.1, p.2) (contact_refused_is tree row k c.bodies-tree.ensures.kept c.requires.fit limit _ (IsContactRefused.in_addition c.forced.new.work c.in_ok-forced.ensures.values (subst (λ (n : ℕ). RefusesAddedForces n c.forced.new.work c.in_err-add_row_forces.field-0.0) c.rows.ensures.count c.in_err-add_row_forces.ensures.refused)))
 
 pub returns-in_err-divide-clause-answer : goal.returns-in_err-divide-clause-answer
 returns-in_err-divide-clause-answer c =
@@ -82,7 +84,7 @@ returns-in_err-divide-clause-answer c =
     let limit = few_rows c.args.work.now k c.requires.rows c.bodies-sizes.ensures.sized in
     let p = err_from_is_err_and c.from_residual-in_err-divide.result c.from_residual-in_err-divide.ensures.1 in
     rw (p.1, p.2) (contact_refused_is tree row k c.bodies-tree.ensures.kept c.requires.fit limit _ (second_refused tree row k c.forced.new.work c.add_row_forces.new.work _ c.in_ok-forced.ensures.values c.add_row_forces.ensures.others
-    c.in_ok-add_row_forces.ensures.values c.in_err-divide.ensures.refused))
+    (subst (λ (n : ℕ). HoldsAddedForces n c.forced.new.work c.add_row_forces.new.work) c.rows.ensures.count c.in_ok-add_row_forces.ensures.values) c.in_err-divide.ensures.refused))
 
 pub returns-clause-answer : goal.returns-clause-answer
 returns-clause-answer c =
