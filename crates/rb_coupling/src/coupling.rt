@@ -2,6 +2,7 @@
 
 ghost use Rattle.std.specs.Prelude.{◌≡◌, ◌≤◌, length, IfErr, OnOk};
 ghost use Rattle.rb_num.specs.declared.interval.NumFault.{NumFault};
+ghost use Rattle.rb_num.specs.declared.interval.TheConstants.{MAX_PAIRS};
 ghost use Rattle.rb_sweep.specs.Sweep.{Answers};
 ghost use Rattle.rb_work.specs.View.{columns_of};
 ghost use Rattle.rb_factor.specs.Factor.{HoldsDivisors};
@@ -12,21 +13,22 @@ ghost use Rattle.rb_coupling.specs.Sweeps.{entry_of, couple_step, couple_row_ste
 
 use crate::eliminate::eliminate_rows;
 use crate::rows::reduce_rows;
-use crate::sums::sum_of_rows;
+use crate::sums::{NO_PAIRS, Pairs, sum_of_rows};
 use rb_num::{Iv, NumFault};
 use rb_work::{Capitals, Name, NameKind, RowFault, Work, named};
 
 // The entry of q and r.
 #[tactic(auto, unfolding(crate::specs::Sweeps::entry_of))]
-fn entry(compliances: &[Iv], q: u32, r: u32, work: &Work) -> Result<Iv, NumFault>
+fn entry(compliances: &[Iv], q: u32, r: u32, work: &Work, pairs: &mut Pairs) -> Result<Iv, NumFault>
     requires from { 1 ≤ r }
     requires earlier { r ≤ q }
     requires row { q ≤ work.now.rows }
     requires compliance { q ≤ length compliances.now }
     ensures exact { result ≡ entry_of (columns_of work.now) compliances.now work.now.Y work.now.Z q r }
+    ensures room { length pairs.new ≡ MAX_PAIRS }
     ensures size { IfErr result (λ e. e ≡ NumFault.Size) }
 {
-    let sum = sum_of_rows(work, q, r)?;
+    let sum = sum_of_rows(work, q, r, pairs)?;
     if r == q {
         sum.add(compliances[q as usize - 1])
     } else {
@@ -36,15 +38,16 @@ fn entry(compliances: &[Iv], q: u32, r: u32, work: &Work) -> Result<Iv, NumFault
 
 // It is put.
 #[tactic(auto, unfolding(crate::specs::Sweeps::couple_step))]
-fn couple_two(compliances: &[Iv], q: u32, r: u32, work: &mut Work) -> Result<(), RowFault>
+fn couple_two(compliances: &[Iv], q: u32, r: u32, work: &mut Work, pairs: &mut Pairs) -> Result<(), RowFault>
     requires from { 1 ≤ r }
     requires earlier { r ≤ q }
     requires row { q ≤ work.old.rows }
     requires compliance { q ≤ length compliances.now }
     ensures exact { Answers result (couple_step (columns_of work.old) work.old.rows compliances.now work.old.Y work.old.Z q r work.old.pairs) work.new.pairs }
     ensures others { work.new ≡ record work.old { pairs = work.new.pairs } }
+    ensures room { length pairs.new ≡ MAX_PAIRS }
 {
-    let v = named(entry(compliances, q, r, work), Name::two(NameKind::G, q, r))?;
+    let v = named(entry(compliances, q, r, work, pairs), Name::two(NameKind::G, q, r))?;
     work.set_G(q, r, v);
     Ok(())
 }
@@ -58,8 +61,9 @@ fn couple_row(compliances: &[Iv], q: u32, work: &mut Work) -> Result<(), RowFaul
     ensures others { work.new ≡ record work.old { pairs = work.new.pairs } }
 {
     let _sizes = work.rows();
+    let mut pairs = NO_PAIRS;
     for r in 1..q + 1 {
-        couple_two(compliances, q, r, work)?;
+        couple_two(compliances, q, r, work, &mut pairs)?;
     }
     Ok(())
 }

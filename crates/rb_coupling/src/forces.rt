@@ -1,7 +1,8 @@
 //! The forces of the rows.
 
-ghost use Rattle.std.specs.Prelude.{◌≡◌, ◌≤◌, ◌<◌, IfErr, OnOk};
+ghost use Rattle.std.specs.Prelude.{◌≡◌, ◌≤◌, ◌<◌, length, IfErr, OnOk};
 ghost use Rattle.rb_num.specs.declared.interval.NumFault.{NumFault};
+ghost use Rattle.rb_num.specs.declared.interval.TheConstants.{MAX_PAIRS};
 ghost use Rattle.rb_sweep.specs.Sweep.{Answers};
 ghost use Rattle.rb_work.specs.View.{columns_of};
 ghost use Rattle.rb_factor.specs.Sweeps.{number_at};
@@ -10,18 +11,19 @@ ghost use Rattle.rb_coupling.specs.Forces.{HoldsRowSides, HoldsRowForces, HoldsA
 ghost use Rattle.rb_coupling.specs.Laws.{EnclosesRowSides, EnclosesRowForces, EnclosesAddedForces};
 ghost use Rattle.rb_coupling.specs.Sweeps.{cell_at, total_of, side_step, sides_of, lessen_step, lessen_row_step, right_reduced_of, right_divide_step, right_divided_of, part_step, part_of, force_step, forces_of, keep_step, kept_of, row_forces_of, add_step, added_of};
 
-use crate::sums::{sum_of_column, sum_of_row};
+use crate::sums::{NO_PAIRS, Pairs, sum_of_column, sum_of_row};
 use rb_num::{Iv, NumFault};
 use rb_work::{Capitals, Name, NameKind, RowFault, Work, named};
 
 // What row r has at z, and g.
 #[tactic(auto, unfolding(crate::specs::Sweeps::total_of))]
-fn row_total(r: u32, work: &Work) -> Result<Iv, NumFault>
+fn row_total(r: u32, work: &Work, pairs: &mut Pairs) -> Result<Iv, NumFault>
     requires row { r ≤ work.now.rows }
     ensures exact { result ≡ total_of (number_at work.now.g r) (columns_of work.now) (cell_at (columns_of work.now) work.now.Y r) (number_at work.now.z) }
+    ensures room { length pairs.new ≡ MAX_PAIRS }
     ensures size { IfErr result (λ e. e ≡ NumFault.Size) }
 {
-    let sum = sum_of_row(work, r)?;
+    let sum = sum_of_row(work, r, pairs)?;
     work.g(r).add(sum)
 }
 
@@ -32,7 +34,8 @@ fn find_side(r: u32, work: &mut Work) -> Result<(), RowFault>
     ensures exact { Answers result (side_step (columns_of work.old) work.old.Y work.old.z work.old.g r work.old.e) work.new.e }
     ensures others { work.new ≡ record work.old { e = work.new.e } }
 {
-    let total = named(row_total(r, work), Name::one(NameKind::e, r))?;
+    let mut pairs = NO_PAIRS;
+    let total = named(row_total(r, work, &mut pairs), Name::one(NameKind::e, r))?;
     work.set_e(r, total.neg());
     Ok(())
 }
@@ -194,25 +197,27 @@ fn find_all(rows: u32, work: &mut Work) -> Result<(), RowFault>
 
 // The number of column c, and what the forces add to it.
 #[tactic(auto, unfolding(crate::specs::Sweeps::total_of))]
-fn column_total(rows: u32, c: u32, work: &Work) -> Result<Iv, NumFault>
+fn column_total(rows: u32, c: u32, work: &Work, pairs: &mut Pairs) -> Result<Iv, NumFault>
     requires rows { rows ≤ work.now.rows }
     requires column { c ≤ columns_of work.now }
     ensures exact { result ≡ total_of (number_at work.now.w c) rows (λ r. cell_at (columns_of work.now) work.now.Y r c) (number_at work.now.lam) }
+    ensures room { length pairs.new ≡ MAX_PAIRS }
     ensures size { IfErr result (λ e. e ≡ NumFault.Size) }
 {
-    let sum = sum_of_column(rows, work, c)?;
+    let sum = sum_of_column(rows, work, c, pairs)?;
     work.w(c).add(sum)
 }
 
 // It is put.
 #[tactic(auto, unfolding(crate::specs::Sweeps::add_step))]
-fn add_to_column(rows: u32, c: u32, work: &mut Work) -> Result<(), RowFault>
+fn add_to_column(rows: u32, c: u32, work: &mut Work, pairs: &mut Pairs) -> Result<(), RowFault>
     requires rows { rows ≤ work.old.rows }
     requires column { c ≤ columns_of work.old }
     ensures exact { Answers result (add_step (columns_of work.old) rows work.old.Y work.old.lam c work.old.w) work.new.w }
     ensures others { work.new ≡ record work.old { w = work.new.w } }
+    ensures room { length pairs.new ≡ MAX_PAIRS }
 {
-    let total = named(column_total(rows, c, work), Name::one(NameKind::w, c))?;
+    let total = named(column_total(rows, c, work, pairs), Name::one(NameKind::w, c))?;
     work.set_w(c, total);
     Ok(())
 }
@@ -225,8 +230,9 @@ fn add_to_columns(rows: u32, work: &mut Work) -> Result<(), RowFault>
     ensures others { work.new ≡ record work.old { w = work.new.w } }
 {
     let end = work.columns() + 1;
+    let mut pairs = NO_PAIRS;
     for c in 1..end {
-        add_to_column(rows, c, work)?;
+        add_to_column(rows, c, work, &mut pairs)?;
     }
     Ok(())
 }
