@@ -1,13 +1,12 @@
 //! Lines of rows, worked out by hand.
 ghost use Rattle.std.specs.Prelude.{◌≡◌, ◌≤◌, IfOk, IfSome, length};
-ghost use Rattle.rb_tree.specs.Places.{IsFor};
 ghost use Rattle.rb_tree.specs.State.{Fits};
-ghost use Rattle.rb_run.specs.Jobs.{IsJob};
+ghost use Rattle.rb_run.specs.Jobs.{IsJob, IsWorkOf};
 ghost use Rattle.rb_run.specs.Slots.{IsSlotOf};
 ghost use Rattle.rb_run.specs.declared.slot.Answer.TheVariants.{Idle};
-ghost use Rattle.rb_rows.specs.Head.{IsBuilt};
 
 use crate::robots::{LIFT, robot_on};
+use rb_constraint::Constraints;
 use rb_num::Iv;
 use rb_rows::{FieldFault, FieldKind};
 use rb_run::{Answer, Job, Slot, SlotInput, Task, answer_slot, line_room, put_line};
@@ -31,22 +30,33 @@ const STACK: &str =
 const LEAF: &str =
     "<robot name='leaf'><link name='base'/><link name='tip'/><joint name='hinge' type='revolute'><parent link='base'/><child link='tip'/><axis xyz='0 1 0'/></joint></robot>";
 
-// This task for the robot of a file, of which no joint follows another; nothing if the file holds none.
+// This task for the robot of a file, of which no joint follows another, without constraints; nothing if the file holds none.
 fn job_of(alloc: Global, text: &str, task: Task, echo: bool) -> Option<Job>
-    requires { IsBuilt task }
     ensures { IfSome result IsJob }
 {
     let robot = robot_on(alloc, text, None)?;
     if robot.has_mimic() {
         return None;
     }
-    Some(Job { robot, task, echo })
+    let cons = Constraints::none(alloc);
+    Some(Job {
+        robot,
+        cons,
+        task,
+        echo,
+    })
 }
 
-fn work_for(alloc: Global, robot: &Robot) -> Result<Work, AllocError>
-    ensures { IfOk result (IsFor robot.now) }
+fn work_for(alloc: Global, job: &Job) -> Result<Work, AllocError>
+    ensures { IfOk result (IsWorkOf job.now) }
 {
-    Work::new(alloc, robot.bodies(), robot.full(), robot.ups(), 0)
+    Work::new(
+        alloc,
+        job.robot.bodies(),
+        job.robot.full(),
+        job.robot.ups(),
+        job.cons.rows(),
+    )
 }
 
 // The line of a slot.
@@ -84,7 +94,7 @@ fn lifted(alloc: Global, job: &Job, row: u64, up: Iv) -> Result<Out, AllocError>
 {
     let mut slot = slot_of(alloc, job, row, up)?;
     slot.input = SlotInput::Row;
-    let mut work = work_for(alloc, &job.robot)?;
+    let mut work = work_for(alloc, job)?;
     answer_slot(job, &mut slot, &mut work);
     line_of(alloc, job, &slot)
 }
@@ -132,21 +142,19 @@ fn driven(alloc: Global, job: &Job) -> Result<Out, AllocError>
         Iv::new(3 * ONE, 3 * ONE),
     );
     drive(&job.robot, &mut slot.state, 1, Iv::new(-ONE, -ONE), Iv::ONE);
-    let mut work = work_for(alloc, &job.robot)?;
+    let mut work = work_for(alloc, job)?;
     answer_slot(job, &mut slot, &mut work);
     line_of(alloc, job, &slot)
 }
 
 // Whether this is the line of row 1 of the stack for a task.
-fn is_driven(alloc: Global, task: Task, line: &[u8]) -> Result<bool, Fail>
-    requires { IsBuilt task }
-{
+fn is_driven(alloc: Global, task: Task, line: &[u8]) -> Result<bool, Fail> {
     let job = job_of(alloc, STACK, task, false).ok_or("the robot is built")?;
     let out = driven(alloc, &job)?;
     Ok(out.bytes() == line)
 }
 
-// The first joint moves both bodies, so the mass table is 2 1, 1 1; 2 * 2 - 1 = 3, and 2 - 1 = 1.
+// The first joint moves both bodies, so the mass table is 2 1, 1 1; 2 * 2 - 1 = 3, and 2 - 1 = 1. Nothing is held, so nothing is struck.
 #[test]
 fn each_task_has_its_values(rt: HostRuntime) -> Result<(), Fail> {
     let alloc = rt.alloc();
@@ -158,6 +166,9 @@ fn each_task_has_its_values(rt: HostRuntime) -> Result<(), Fail> {
     let accelerations = b"1,ok,,2.000000000000..2.000000000000,-1.000000000000..-1.000000000000\n";
     assert!(rt; is_driven(alloc, Task::Fd, accelerations)?);
     assert!(rt; is_driven(alloc, Task::Aba, accelerations)?);
+    assert!(rt; is_driven(alloc, Task::Contact, accelerations)?);
+    let rest = b"1,ok,,0.000000000000..0.000000000000,0.000000000000..0.000000000000\n";
+    assert!(rt; is_driven(alloc, Task::Impulse, rest)?);
     Ok(())
 }
 
@@ -205,7 +216,7 @@ fn slots_without_a_state_are_answered(rt: HostRuntime) -> Result<(), Fail> {
     let alloc = rt.alloc();
     let job = job_of(alloc, LIFT, Task::Rnea, false).ok_or("the robot is built")?;
     let mut slot = Slot::new(alloc, &job)?;
-    let mut work = work_for(alloc, &job.robot)?;
+    let mut work = work_for(alloc, &job)?;
     answer_slot(&job, &mut slot, &mut work);
     assert_eq!(rt; slot.answer, Answer::Idle);
     let fault = FieldFault {
