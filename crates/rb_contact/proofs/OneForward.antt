@@ -89,9 +89,9 @@ module _ (tree : Tree) (row : Row) (kept : AreBodies tree.bodies) where
       subst (λ (a : ℕ). is_on u.up a (min c d) ≡ true) (sym order.0) (subst (λ (b : ℕ). is_on u.up c b ≡ true) (sym order.1) (is_on_true u.up ascends c d on)) in
       ap (λ (b : Bool). if b then M_at u c d else zero_interval) test
 
-  tables_same : (u w : View) → IsFor tree u → IsFor tree w → AreDynamics tree bias_row u → AreDynamics tree bias_row w → AreMass tree u → AreMass tree w
+  pub tables_same : (u w : View) → IsFor tree u → IsFor tree w → SamePlaces tree u w → AreMass tree u → AreMass tree w
       → SameTables (columns_of u) (above u.up) (M_at u) (M_at w)
-  tables_same u w hu hw bu bw mu mw c d there on =
+  tables_same u w hu hw places mu mw c d there on =
       let ups = ups_same u w hu hw in
       let ascends = ascends_for tree u kept hu in
       let listed : IsOn u.up c d = listed_on u.up ascends c d there.from on in
@@ -100,7 +100,7 @@ module _ (tree : Tree) (row : Row) (kept : AreBodies tree.bodies) where
       let i = robot_column u hu c there in
       let high : c ≤ n = i.to in
       sym (some_mass u ascends c d listed)
-      ∙ masses_same u w hu hw (one_mass.values u w (ups_are tree u.up hu.up) (ups_are tree w.up hw.up) (places_same u w bu bw) mu mw) c d i (record { from = least; to = omega arith })
+      ∙ masses_same u w hu hw (one_mass.values u w (ups_are tree u.up hu.up) (ups_are tree w.up hw.up) places mu mw) c d i (record { from = least; to = omega arith })
       ∙ some_mass w (ascends_for tree w kept hw) c d (subst (λ (ks : List ℕ). IsOn ks c d) ups listed)
 
   -- ---- its factors, seen with the columns of another work
@@ -132,7 +132,7 @@ module _ (tree : Tree) (row : Row) (kept : AreBodies tree.bodies) where
     one_of : HasOneFactor (columns_of u) (above u.up) (M_at (given u hu)) (M_at (given w hw))
     one_of =
         factor_is_one (columns_of u) (above u.up) (M_at (given u hu)) (M_at (given w hw)) own_regular
-        (tables_same (given u hu) (given w hw) (given_room u hu) (given_room w hw) (given_bias u hu) (given_bias w hw) hu.table hw.table)
+        (tables_same (given u hu) (given w hw) (given_room u hu) (given_room w hw) (places_same (given u hu) (given w hw) (given_bias u hu) (given_bias w hw)) hu.table hw.table)
 
     pub same_factors : SameFactors (columns_of u) (above u.up) (L_at u) (L_at w)
     same_factors = one_of.factors hu.factors.table hw.factors.table (L_at u) (L_at w) (D_at u) (D_at w) hu.factors.are (factors_at u w hw.mass ups hw.factors)
@@ -176,7 +176,7 @@ module _ (tree : Tree) (row : Row) (kept : AreBodies tree.bodies) where
 
   no_factors : (w v : View) (e : RowFault) → AreFactored tree row w → IsFor tree v → AreDynamics tree bias_row v → AreMass tree v → RefusesFactor v e → ⊥
   no_factors w v e h room bv mv r =
-      let same = tables_same (given w h) v (given_room w h) room (given_bias w h) bv h.table mv in
+      let same = tables_same (given w h) v (given_room w h) room (places_same (given w h) v (given_bias w h) bv) h.table mv in
       let one = factor_is_one (columns_of w) (above w.up) (M_at (given w h)) (M_at v) (regular w.up (ascends_for tree w kept h.room)) same in
       one.either h.factors.table (L_at w) (D_at w) e h.factors.are h.factors.divisors (refused_at w v e (ups_same w v h.room room) r)
 
@@ -224,7 +224,7 @@ module _ (tree : Tree) (row : Row) (kept : AreBodies tree.bodies) where
   same_factor_refusal : (u v : View) (d e : RowFault) → IsFor tree u → AreDynamics tree bias_row u → AreMass tree u → RefusesFactor u d
       → IsFor tree v → AreDynamics tree bias_row v → AreMass tree v → RefusesFactor v e → d ≡ e
   same_factor_refusal u v d e ru bu mu r rv bv mv q =
-      (factor_is_one (columns_of u) (above u.up) (M_at u) (M_at v) (regular u.up (ascends_for tree u kept ru)) (tables_same u v ru rv bu bv mu mv)).refusal d e r
+      (factor_is_one (columns_of u) (above u.up) (M_at u) (M_at v) (regular u.up (ascends_for tree u kept ru)) (tables_same u v ru rv (places_same u v bu bv) mu mv)).refusal d e r
       (refused_at u v e (ups_same u v ru rv) q)
 
   pub one_preparation : (d e : RowFault) → IsPreparationRefused tree row d → IsPreparationRefused tree row e → d ≡ e

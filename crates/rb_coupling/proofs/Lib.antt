@@ -15,4 +15,4 @@ pub mod Answered
 pub mod Borders
 pub mod OneForce
 pub mod OneCoupling
-mod Rigid
+pub mod Rigid

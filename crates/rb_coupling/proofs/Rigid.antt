@@ -19,7 +19,7 @@ use Rattle.rb_coupling.specs.Steps.{pairs_of, interval_row_steps}
 use Rattle.rb_coupling.specs.Couple.{IsEntryRefused, in_sum, in_compliance}
 use Rattle.rb_coupling.specs.Laws.{ZeroIsRigid}
 
-pairs_long : (a b : ℕ → Interval) (n : ℕ) → length (pairs_of a b n) ≡ n
+pub pairs_long : (a b : ℕ → Interval) (n : ℕ) → length (pairs_of a b n) ≡ n
 unfolding pairs_of
 pairs_long a b zero = omega arith
 pairs_long a b (suc n) = let h : length (pairs_of a b n) ≡ n = pairs_long a b n in rw length_push (omega arith)
@@ -34,7 +34,7 @@ sums_bounded (p ∷ ps) f few =
     record { below = omega (arith, ints); ordered = omega (arith, ints); above = omega (arith, ints); few = omega arith }
 
 -- a sum of products is an interval
-whole : (ps : List (Interval × Interval)) (v : Interval) → length ps ≤ 64 → iv_dot ps ≡ Ok v → IsInterval v.lo v.hi
+pub whole : (ps : List (Interval × Interval)) (v : Interval) → length ps ≤ 64 → iv_dot ps ≡ Ok v → IsInterval v.lo v.hi
 unfolding dot_of
 whole ps v few h =
     let k = is_ok ps v h in

@@ -1,0 +1,10 @@
+pub mod Zeros
+pub mod Stops
+pub mod OnePass
+pub mod Passes
+pub mod Stays
+pub mod Struck
+pub mod Pushed
+pub mod OneImpact
+pub mod ImpactAnswer
+pub mod ImpactEncloses
