@@ -19,15 +19,6 @@ task_word For.Aba = codes "aba"
 task_word For.Contact = codes "contact"
 task_word For.Impulse = codes "impulse"
 
--- the tasks whose rows are answered
-abbrev pub IsBuilt : Task → Type 0
-IsBuilt For.Rnea = Unit {0}
-IsBuilt For.Crba = Unit {0}
-IsBuilt For.Fd = Unit {0}
-IsBuilt For.Aba = Unit {0}
-IsBuilt For.Contact = Unit {0}
-IsBuilt task = ⊥
-
 -- ---- lines
 -- names as a record of comma-separated values, or nothing where there are none; ended by LF
 abbrev pub line_of : List (List ℕ) → List ℕ
