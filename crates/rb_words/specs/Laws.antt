@@ -6,7 +6,7 @@ use Rattle.rb_num.specs.Interval.{Interval, interval}
 use Rattle.rb_result.specs.Steps.{◌>>=◌}
 use Rattle.rb_words.specs.declared.faults.WordsFault.{WordsFault}
 use Rattle.rb_words.specs.declared.order.Order.{Order}
-use Rattle.rb_words.specs.Words.{Asked, IsBuilt, command_of, gravity_of, order_of, root_in}
+use Rattle.rb_words.specs.Words.{Asked, command_of, gravity_of, order_of, root_in}
 
 -- a value that is a word of its own does not begin with a hyphen
 abbrev pub stands_alone : Text → Bool
@@ -87,7 +87,3 @@ all_command texts =
 
 abbrev pub AllWordsTell : Type 0
 AllWordsTell = (program : Text) (texts : Texts) → command_of (all_words program texts) ≡ all_command texts
-
--- what words ask for is built
-abbrev pub CommandsAreBuilt : Type 0
-CommandsAreBuilt = (words : List Text) (command : Asked) → command_of words ≡ Ok command → IsBuilt command.order

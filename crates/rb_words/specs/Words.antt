@@ -14,9 +14,8 @@ use Rattle.rb_result.specs.Steps.{◌>>=◌}
 use Rattle.rb_text.specs.Bracket.{bracket_of}
 use Rattle.rb_tags.specs.declared.root.RootKind.{RootKind}
 use Rattle.rb_tags.specs.declared.root.RootKind.TheVariants.{Fixed, Planar, Floating}
-use Rattle.rb_rows.specs.Head as Tasks
 use Rattle.rb_rows.specs.Head.{task_word}
-use Rattle.rb_rows.specs.declared.task.Task.TheVariants.{Rnea, Crba, Fd, Aba, Contact}
+use Rattle.rb_rows.specs.declared.task.Task.TheVariants.{Rnea, Crba, Fd, Aba, Contact, Impulse}
 use Rattle.rb_words.specs.declared.faults.WordsFault.{WordsFault}
 use Rattle.rb_words.specs.declared.faults.WordsFault.TheVariants.{Words, Task, Root, Gravity}
 use Rattle.rb_words.specs.declared.order.Order.{Order}
@@ -36,15 +35,9 @@ order_word (Rows task) = task_word task
 order_word Model = codes "model"
 order_word Columns = codes "columns"
 
--- the orders that are built
+-- all orders
 abbrev pub orders : List Order
-orders = Rows Rnea ∷ Rows Crba ∷ Rows Fd ∷ Rows Aba ∷ Rows Contact ∷ Model ∷ Columns ∷ []
-
--- of the tasks over rows, those whose rows are answered
-abbrev pub IsBuilt : Order → Type 0
-IsBuilt (Rows task) = Tasks.IsBuilt task
-IsBuilt Model = Unit {0}
-IsBuilt Columns = Unit {0}
+orders = Rows Rnea ∷ Rows Crba ∷ Rows Fd ∷ Rows Aba ∷ Rows Contact ∷ Rows Impulse ∷ Model ∷ Columns ∷ []
 
 unfoldable pub order_of : Text → Result Order WordsFault
 order_of word = ok_or (find (λ order. bytes_eq word (order_word order)) orders) Task

@@ -1,7 +1,7 @@
-ghost use Rattle.std.specs.Prelude.{◌≡◌, IfOk, MatchResult, Ok, Err, option_copied, codes};
+ghost use Rattle.std.specs.Prelude.{◌≡◌, MatchResult, Ok, Err, option_copied, codes};
 ghost use Rattle.rb_tags.specs.declared.root.RootKind.{RootKind};
 ghost use Rattle.clap.specs.Words.{first_of, found_of, rows_of};
-ghost use Rattle.rb_words.specs.Words.{asked_by, asked_in, IsBuilt, root_in, root_of, text_of};
+ghost use Rattle.rb_words.specs.Words.{asked_by, asked_in, root_in, root_of, text_of};
 
 use crate::faults::WordsFault;
 use crate::gravity::read_gravity;
@@ -75,10 +75,9 @@ fn sure_text<'a>(given: &ArgMatches<'a>, option: &str) -> &'a str
 /// What the options ask for. `clap` has the text `true` for a flag that is given.
 #[tactic(auto, unfolding(crate::specs::Words::asked_in))]
 pub(crate) fn read_options<'a>(given: &ArgMatches<'a>) -> Result<Command<'a>, WordsFault>
-    ensures told { MatchResult result
+    ensures { MatchResult result
         (λ command. asked_in (rows_of (found_of given.now)) ≡ Ok (asked_by command))
         (λ fault. asked_in (rows_of (found_of given.now)) ≡ Err fault) }
-    ensures built { IfOk result (λ command. IsBuilt command.order) }
 {
     let order = read_order(sure_text(given, "task"))?;
     let root = read_root(text(given, "root"))?;

@@ -9,7 +9,7 @@ use std::fmt;
 pub enum WordsFault {
     /// They do not fit the options, or ask for help.
     Words,
-    /// The task is not the word of an order that is built.
+    /// The task is not the word of an order.
     Task,
     /// The kind of the root is not `fixed`, `planar` or `floating`.
     Root,

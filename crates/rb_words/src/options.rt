@@ -13,7 +13,7 @@ const EXAMPLE: &str =
     "Example: rbd --task rnea --urdf arm.urdf --rows table.csv --gravity 0,0,-9.81";
 
 const TASK: &str =
-    "What is put out: rnea, the torques of each row; crba, its mass table; fd, its accelerations; aba, the same by articulated bodies; model, the robot as it is built; columns, the names of the columns that rows may have";
+    "What is put out: rnea, the torques of each row; crba, its mass table; fd, its accelerations; aba, the same by articulated bodies; contact, the same under constraints, and the forces of these; impulse, its speeds after an impact on constraints, and the impulses of these; model, the robot as it is built; columns, the names of the columns that rows may have";
 
 const URDF: &str = "The URDF file of the robot";
 

@@ -1,5 +1,5 @@
-ghost use Rattle.std.specs.Prelude.{◌≡◌, IfOk};
-ghost use Rattle.rb_words.specs.Words.{order_word, order_of, IsBuilt};
+ghost use Rattle.std.specs.Prelude.{◌≡◌};
+ghost use Rattle.rb_words.specs.Words.{order_word, order_of};
 
 use crate::faults::WordsFault;
 use rb_rows::Task;
@@ -31,8 +31,7 @@ impl Order {
 /// The order of this word.
 #[tactic(auto, unfolding(crate::specs::Words::order_of))]
 pub(crate) fn read_order(word: &str) -> Result<Order, WordsFault>
-    ensures exact { result ≡ order_of word.now }
-    ensures built { IfOk result IsBuilt }
+    ensures { result ≡ order_of word.now }
 {
     match word {
         "rnea" => Ok(Order::Rows(Task::Rnea)),
@@ -40,6 +39,7 @@ pub(crate) fn read_order(word: &str) -> Result<Order, WordsFault>
         "fd" => Ok(Order::Rows(Task::Fd)),
         "aba" => Ok(Order::Rows(Task::Aba)),
         "contact" => Ok(Order::Rows(Task::Contact)),
+        "impulse" => Ok(Order::Rows(Task::Impulse)),
         "model" => Ok(Order::Model),
         "columns" => Ok(Order::Columns),
         _ => Err(WordsFault::Task),

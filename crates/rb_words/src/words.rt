@@ -1,6 +1,6 @@
 ghost use Rattle.std.specs.Prelude.{◌≡◌, ◌⊎◌, ◌++◌, ℕ, List, IfOk, OnOk, OnErr, Ok, Err, map, string_bytes};
 ghost use Rattle.clap.specs.Words.{kind_of};
-ghost use Rattle.rb_words.specs.Words.{asked_by, command_of, IsBuilt};
+ghost use Rattle.rb_words.specs.Words.{asked_by, command_of};
 
 use crate::command::{Command, read_options};
 use crate::faults::{WordsFault, WordsStop};
@@ -44,7 +44,6 @@ pub fn read_words<'a>(
     told: &mut String,
 ) -> Result<Command<'a>, WordsStop>
     ensures ok { IfOk result (λ command. command_of (map string_bytes words.now) ≡ Ok (asked_by command)) }
-    ensures built { IfOk result (λ command. IsBuilt command.order) }
     ensures err { (fault : WordsFault) → result ≡ Err (WordsStop.Fault fault) → command_of (map string_bytes words.now) ≡ Err fault }
     ensures text { (text : List ℕ) × (string_bytes told.new ≡ string_bytes told.old ++ text) }
     ensures quiet { (result ≡ Err (WordsStop.Fault WordsFault.Words) → ⊥) → string_bytes told.new ≡ string_bytes told.old }

@@ -4,12 +4,12 @@ use Rattle.rb_words.proofs.Telling.{words_accepted, words_refused}
 use Rattle.rb_words.proofs.words.read_words.Goals as goal
 
 pub returns-in-Ok-read_options-clause-ok : goal.returns-in-Ok-read_options-clause-ok
-returns-in-Ok-read_options-clause-ok c = words_accepted _ _ _ c.in-Ok.ensures.kinds c.in-Ok.ensures.matches c.in-Ok-read_options.ensures.told
+returns-in-Ok-read_options-clause-ok c = words_accepted _ _ _ c.in-Ok.ensures.kinds c.in-Ok.ensures.matches c.in-Ok-read_options.ensures
 
 pub returns-in-Ok-clause-err : goal.returns-in-Ok-clause-err
 returns-in-Ok-clause-err c = λ fault told.
     let same : c.in-Err-read_options.fault ≡ fault = cc in
-    words_accepted _ _ _ c.in-Ok.ensures.kinds c.in-Ok.ensures.matches c.in-Err-read_options.ensures.told ∙ ap Err same
+    words_accepted _ _ _ c.in-Ok.ensures.kinds c.in-Ok.ensures.matches c.in-Err-read_options.ensures ∙ ap Err same
 
 pub returns-clause-err : goal.returns-clause-err
 returns-clause-err c = λ fault told. elim c.refusal.ensures.stop [
