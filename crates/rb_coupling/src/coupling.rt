@@ -38,7 +38,13 @@ fn entry(compliances: &[Iv], q: u32, r: u32, work: &Work, pairs: &mut Pairs) -> 
 
 // It is put.
 #[tactic(auto, unfolding(crate::specs::Sweeps::couple_step))]
-fn couple_two(compliances: &[Iv], q: u32, r: u32, work: &mut Work, pairs: &mut Pairs) -> Result<(), RowFault>
+fn couple_two(
+    compliances: &[Iv],
+    q: u32,
+    r: u32,
+    work: &mut Work,
+    pairs: &mut Pairs,
+) -> Result<(), RowFault>
     requires from { 1 ≤ r }
     requires earlier { r ≤ q }
     requires row { q ≤ work.old.rows }
@@ -47,7 +53,10 @@ fn couple_two(compliances: &[Iv], q: u32, r: u32, work: &mut Work, pairs: &mut P
     ensures others { work.new ≡ record work.old { pairs = work.new.pairs } }
     ensures room { length pairs.new ≡ MAX_PAIRS }
 {
-    let v = named(entry(compliances, q, r, work, pairs), Name::two(NameKind::G, q, r))?;
+    let v = named(
+        entry(compliances, q, r, work, pairs),
+        Name::two(NameKind::G, q, r),
+    )?;
     work.set_G(q, r, v);
     Ok(())
 }

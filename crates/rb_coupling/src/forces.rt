@@ -197,11 +197,12 @@ fn find_all(rows: u32, work: &mut Work) -> Result<(), RowFault>
 
 // The number of column c, and what the forces add to it.
 #[tactic(auto, unfolding(crate::specs::Sweeps::total_of))]
-fn column_total(rows: u32, c: u32, work: &Work, pairs: &mut Pairs) -> Result<Iv, NumFault>
+fn column_total(rows: u32, c: u32, work: &Work, pairs: &mut [(Iv, Iv)]) -> Result<Iv, NumFault>
     requires rows { rows ≤ work.now.rows }
+    requires room { rows ≤ length pairs.old }
     requires column { c ≤ columns_of work.now }
     ensures exact { result ≡ total_of (number_at work.now.w c) rows (λ r. cell_at (columns_of work.now) work.now.Y r c) (number_at work.now.lam) }
-    ensures room { length pairs.new ≡ MAX_PAIRS }
+    ensures room { length pairs.new ≡ length pairs.old }
     ensures size { IfErr result (λ e. e ≡ NumFault.Size) }
 {
     let sum = sum_of_column(rows, work, c, pairs)?;
@@ -210,31 +211,49 @@ fn column_total(rows: u32, c: u32, work: &Work, pairs: &mut Pairs) -> Result<Iv,
 
 // It is put.
 #[tactic(auto, unfolding(crate::specs::Sweeps::add_step))]
-fn add_to_column(rows: u32, c: u32, work: &mut Work, pairs: &mut Pairs) -> Result<(), RowFault>
+fn add_to_column(rows: u32, c: u32, work: &mut Work, pairs: &mut [(Iv, Iv)]) -> Result<(), RowFault>
     requires rows { rows ≤ work.old.rows }
+    requires room { rows ≤ length pairs.old }
     requires column { c ≤ columns_of work.old }
     ensures exact { Answers result (add_step (columns_of work.old) rows work.old.Y work.old.lam c work.old.w) work.new.w }
     ensures others { work.new ≡ record work.old { w = work.new.w } }
-    ensures room { length pairs.new ≡ MAX_PAIRS }
+    ensures room { length pairs.new ≡ length pairs.old }
 {
-    let total = named(column_total(rows, c, work, pairs), Name::one(NameKind::w, c))?;
+    let total = named(
+        column_total(rows, c, work, pairs),
+        Name::one(NameKind::w, c),
+    )?;
     work.set_w(c, total);
     Ok(())
 }
 
 // The columns from the first on.
 #[tactic(auto, using(rb_sweep::proofs::SweepSteps::sweeps))]
-fn add_to_columns(rows: u32, work: &mut Work) -> Result<(), RowFault>
+fn add_to_columns(rows: u32, work: &mut Work, pairs: &mut [(Iv, Iv)]) -> Result<(), RowFault>
     requires rows { rows ≤ work.old.rows }
+    requires room { rows ≤ length pairs.old }
     ensures exact { Answers result (added_of (columns_of work.old) rows work.old.Y work.old.lam work.old.w) work.new.w }
     ensures others { work.new ≡ record work.old { w = work.new.w } }
 {
     let end = work.columns() + 1;
-    let mut pairs = NO_PAIRS;
     for c in 1..end {
-        add_to_column(rows, c, work, &mut pairs)?;
+        add_to_column(rows, c, work, pairs)?;
     }
     Ok(())
+}
+
+// The room for pairs is made where there is a row.
+fn add_to_all(rows: u32, work: &mut Work) -> Result<(), RowFault>
+    requires rows { rows ≤ work.old.rows }
+    ensures exact { Answers result (added_of (columns_of work.old) rows work.old.Y work.old.lam work.old.w) work.new.w }
+    ensures others { work.new ≡ record work.old { w = work.new.w } }
+{
+    let _sizes = work.rows();
+    if rows == 0 {
+        return add_to_columns(rows, work, &mut []);
+    }
+    let mut pairs = NO_PAIRS;
+    add_to_columns(rows, work, &mut pairs)
 }
 
 /// The right side of the forces of the first `rows` rows: `e[r]` is the negative of `g[r]` with the sum of the products of `Y[r]` and `z` added, from the first
@@ -278,5 +297,5 @@ pub fn add_row_forces(rows: u32, work: &mut Work) -> Result<(), RowFault>
     ensures others { work.new ≡ record work.old { w = work.new.w } }
 {
     let _sizes = work.columns();
-    add_to_columns(rows, work)
+    add_to_all(rows, work)
 }

@@ -13,10 +13,10 @@ ghost use Rattle.rb_coupling.specs.Sweeps.{cell_at};
 use rb_num::{Iv, MAX_PAIRS, NumFault, dot};
 use rb_work::{Capitals, Work};
 
-// Room for the pairs of a sum, whatever stands there before.
+// Room for the pairs of a sum. What stands there before does not matter.
 pub(crate) type Pairs = [(Iv, Iv); MAX_PAIRS];
 
-// Room as it is made.
+// Such room, with no pairs yet.
 pub(crate) const NO_PAIRS: Pairs = [(Iv::ZERO, Iv::ZERO); MAX_PAIRS];
 
 // The columns of Y of one row with Z of another.
@@ -52,11 +52,17 @@ pub(crate) fn sum_of_row(work: &Work, r: u32, pairs: &mut Pairs) -> Result<Iv, N
 
 // So many rows of Y at one column with lam.
 #[tactic(auto, unfolding(crate::specs::Steps::pairs_of))]
-pub(crate) fn sum_of_column(rows: u32, work: &Work, c: u32, pairs: &mut Pairs) -> Result<Iv, NumFault>
+pub(crate) fn sum_of_column(
+    rows: u32,
+    work: &Work,
+    c: u32,
+    pairs: &mut [(Iv, Iv)],
+) -> Result<Iv, NumFault>
     requires rows { rows ≤ work.now.rows }
+    requires room { rows ≤ length pairs.old }
     requires column { c ≤ columns_of work.now }
     ensures exact { result ≡ iv_dot (pairs_of (λ r. cell_at (columns_of work.now) work.now.Y r c) (number_at work.now.lam) rows) }
-    ensures room { length pairs.new ≡ MAX_PAIRS }
+    ensures room { length pairs.new ≡ length pairs.old }
     ensures size { IfErr result (λ e. e ≡ NumFault.Size) }
 {
     let _sizes = work.rows();
