@@ -13,9 +13,7 @@ use Rattle.rb_num.proofs.Dots.{products_ordered}
 use Rattle.rb_num.proofs.Adding.{rounded_ends}
 use Rattle.rb_num.proofs.Refused.{is_ok}
 use Rattle.rb_num.proofs.Zeros.{add-zero_right}
-use Rattle.rb_bordered.specs.Steps.{IsRow}
-use Rattle.rb_bordered.specs.Forces.{HaveRowFactors, HaveRigidFactors}
-use Rattle.rb_coupling.specs.Steps.{pairs_of, interval_row_steps}
+use Rattle.rb_coupling.specs.Steps.{pairs_of}
 use Rattle.rb_coupling.specs.Couple.{IsEntryRefused, in_sum, in_compliance}
 use Rattle.rb_coupling.specs.Laws.{ZeroIsRigid}
 
