@@ -14,12 +14,13 @@ use Rattle.rb_constraint.specs.declared.constraints.Constraint.{Constraint}
 use Rattle.rb_constraint.specs.Constraints.{constraints_of}
 use Rattle.rb_contact.specs.Contact.{EnclosesContact, contact_of, forces_in}
 use Rattle.rb_contact.specs.Forward.{EnclosesForward, accelerations_in}
+use Rattle.rb_impact.specs.Impact.{EnclosesImpact, impact_of, speeds_in, impulses_in}
 use Rattle.rb_aba.specs.Forward as Articulated
 use Rattle.rb_rows.specs.declared.task.Task.{Task}
 use Rattle.rb_rows.specs.declared.task.Task.TheVariants as task
 use Rattle.rb_run.specs.Answers.{answer_for, values_in, upper_of, masses_in}
 use Rattle.rb_run.specs.Meaning.{Encloses}
-use Rattle.rb_run.proofs.Enclosing.{torques_enclose, accelerations_enclose, articulated_enclose, masses_enclose, contact_encloses}
+use Rattle.rb_run.proofs.Enclosing.{torques_enclose, accelerations_enclose, articulated_enclose, masses_enclose, contact_encloses, impulse_encloses}
 use Rattle.rb_run.proofs.Upper.{upper_is, answers_then}
 
 on_ok : {A : Type 0} (r : Result A RowFault) (P Q : Type 0) → (P → Q) → OnOk r P → OnOk r Q
@@ -60,3 +61,16 @@ module _ (asked : Task) where
       subst (λ t. Answers r (answer_for t tree cons row) (values_in t tree cons w)) (sym is)
       (answers_then r (contact_of tree row (constraints_of cons)) (accelerations_in tree w, forces_in (constraints_of cons) w) (λ (found : List Interval × List Interval). found.0 ++ found.1)
       (accelerations_in tree w ++ forces_in (constraints_of cons) w) refl answers)
+
+  pub impulse_found : asked ≡ task.Impulse → {A : Type 0} (r : Result A RowFault) (tree : Tree) (cons : List Constraint) (row : Row) (w : View) → OnOk r (EnclosesImpact tree row (constraints_of cons) w)
+      → OnOk r (Encloses asked tree cons row (values_in asked tree cons w))
+  impulse_found is r tree cons row w lie =
+      subst (λ t. OnOk r (Encloses t tree cons row (values_in t tree cons w))) (sym is)
+      (on_ok r (EnclosesImpact tree row (constraints_of cons) w) (Encloses task.Impulse tree cons row (speeds_in tree w ++ impulses_in (constraints_of cons) w)) (impulse_encloses tree cons row w) lie)
+
+  pub impulse_answer : asked ≡ task.Impulse → {A : Type 0} (r : Result A RowFault) (tree : Tree) (cons : List Constraint) (row : Row) (w : View)
+      → Answers r (impact_of tree row (constraints_of cons)) (speeds_in tree w, impulses_in (constraints_of cons) w) → Answers r (answer_for asked tree cons row) (values_in asked tree cons w)
+  impulse_answer is r tree cons row w answers =
+      subst (λ t. Answers r (answer_for t tree cons row) (values_in t tree cons w)) (sym is)
+      (answers_then r (impact_of tree row (constraints_of cons)) (speeds_in tree w, impulses_in (constraints_of cons) w) (λ (found : List Interval × List Interval). found.0 ++ found.1)
+      (speeds_in tree w ++ impulses_in (constraints_of cons) w) refl answers)

@@ -14,7 +14,7 @@ use Rattle.rb_flat.proofs.OneSolution.{inverse_has_one_solution}
 use Rattle.rb_sweep.specs.Sweep.{upward}
 use Rattle.rb_sweep.proofs.Climbing.{length-upward, upward_at}
 use Rattle.rb_urdf.proofs.Zips.{slice_get-of_map}
-use Rattle.rb_work.specs.View.{View, T_at, x_at, lam_at, mass_at}
+use Rattle.rb_work.specs.View.{View, T_at, x_at, y_at, lam_at, mass_at}
 use Rattle.rb_tree.specs.Columns.{column_count}
 use Rattle.rb_tree.specs.Robot.{Tree, HasColumn, AreBodies}
 use Rattle.rb_tree.specs.Shape.{shape_of}
@@ -26,12 +26,13 @@ use Rattle.rb_constraint.specs.declared.constraints.Constraint.{Constraint}
 use Rattle.rb_constraint.specs.Constraints.{constraints_of}
 use Rattle.rb_contact.specs.Contact.{EnclosesContact, forces_in}
 use Rattle.rb_contact.specs.Forward.{EnclosesForward, accelerations_in}
+use Rattle.rb_impact.specs.Impact.{EnclosesImpact, speeds_in, impulses_in}
 use Rattle.rb_aba.specs.Forward as Articulated
 use Rattle.rb_rows.specs.Head.{pairs_of}
 use Rattle.rb_rows.specs.declared.task.Task.TheVariants as task
 use Rattle.rb_run.specs.Answers.{mass_of_pair, masses_in}
 use Rattle.rb_run.specs.Meaning.{HasMassesWithin, Encloses}
-use Rattle.rb_run.proofs.Pairs.{IsPair, pairs_counted, pair_at}
+use Rattle.rb_run.proofs.Pairs.{pairs_counted, pair_at}
 
 -- ---- values of columns
 columns_long : (at : ℕ → Interval) (n : ℕ) → length (map at (upward 1 (n + 1))) ≡ n
@@ -93,26 +94,54 @@ at_back (x ∷ xs) ys (suc n) k value long is =
     let e : suc n + k ≡ suc (n + k) = omega arith in
     at_back xs ys n k value (omega (arith, long)) (subst (λ (m : ℕ). slice_get (x ∷ (xs ++ ys)) m ≡ Some value) e is)
 
+-- so many values of columns, and behind them so many of rows
+module _ (at row_at : ℕ → Interval) (n rows : ℕ) where
+  abbrev values_of_columns : List Interval
+  values_of_columns = map at (upward 1 (n + 1))
+
+  abbrev values_of_rows : List Interval
+  values_of_rows = map row_at (upward 1 (rows + 1))
+
+  both_long : length (values_of_columns ++ values_of_rows) ≡ n + rows
+  both_long = omega (arith, length-append values_of_columns values_of_rows, columns_long at n, columns_long row_at rows)
+
+  front_lies : (x : ℕ → Frac) → ((c : ℕ) → 1 ≤ c → c ≤ n → LiesIn (x c) (at c)) → (k : ℕ) (value : Interval) → k < n
+      → slice_get (values_of_columns ++ values_of_rows) k ≡ Some value → LiesIn (x (k + 1)) value
+  front_lies x lie k value within is = columns_lie at n x lie k value (in_front values_of_columns values_of_rows k value (omega (arith, columns_long at n, within)) is)
+
+  back_lies : (x : ℕ → Frac) → ((r : ℕ) → 1 ≤ r → r ≤ rows → LiesIn (x r) (row_at r)) → (k : ℕ) (value : Interval)
+      → slice_get (values_of_columns ++ values_of_rows) (n + k) ≡ Some value → LiesIn (x (k + 1)) value
+  back_lies x lie k value is = columns_lie row_at rows x lie k value (at_back values_of_columns values_of_rows n k value (sym (columns_long at n)) is)
+
 pub contact_encloses : (tree : Tree) (cons : List Constraint) (row : Row) (w : View) → EnclosesContact tree row (constraints_of cons) w
     → Encloses task.Contact tree cons row (accelerations_in tree w ++ forces_in (constraints_of cons) w)
 contact_encloses tree cons row w encloses =
     let n = column_count tree.bodies in
     let k = constraints_of cons in
-    let first = map (x_at w) (upward 1 (n + 1)) in
-    let second = map (lam_at w) (upward 1 (k.rows + 1)) in
-    let long : length first ≡ n = columns_long (x_at w) n in
     record {
-      count = omega (arith, length-append first second, long, columns_long (lam_at w) k.rows);
+      count = both_long (x_at w) (lam_at w) n k.rows;
       each = λ choice chosen numbers given.
           let lie = encloses.at choice numbers chosen given in
           record {
             one = lie.one;
-            accelerations = λ place value within there.
-                columns_lie (x_at w) n lie.one.solution.tree.joint_acceleration (λ c from to. lie.accelerations c (record { from = from; to = to })) place value
-                (in_front first second place value (omega (arith, long, within)) there);
-            forces = λ place value there.
-                columns_lie (lam_at w) k.rows lie.one.solution.row_force (λ r from to. lie.forces r (record { from = from; to = omega (arith, to, given.rows) })) place value
-                (at_back first second n place value (sym long) there);
+            accelerations = front_lies (x_at w) (lam_at w) n k.rows lie.one.solution.tree.joint_acceleration (λ c from to. lie.accelerations c (record { from = from; to = to }));
+            forces = back_lies (x_at w) (lam_at w) n k.rows lie.one.solution.row_force (λ r from to. lie.forces r (record { from = from; to = omega (arith, to, given.rows) }));
+          };
+    }
+
+pub impulse_encloses : (tree : Tree) (cons : List Constraint) (row : Row) (w : View) → EnclosesImpact tree row (constraints_of cons) w
+    → Encloses task.Impulse tree cons row (speeds_in tree w ++ impulses_in (constraints_of cons) w)
+impulse_encloses tree cons row w encloses =
+    let n = column_count tree.bodies in
+    let k = constraints_of cons in
+    record {
+      count = both_long (y_at w) (lam_at w) n k.rows;
+      each = λ choice chosen numbers given.
+          let lie = encloses.at choice numbers chosen given in
+          record {
+            one = lie.one;
+            speeds = front_lies (y_at w) (lam_at w) n k.rows lie.one.solution.speed_after (λ c from to. lie.speeds c (record { from = from; to = to }));
+            impulses = back_lies (y_at w) (lam_at w) n k.rows lie.one.solution.row_impulse (λ r from to. lie.impulses r (record { from = from; to = omega (arith, to, given.rows) }));
           };
     }
 

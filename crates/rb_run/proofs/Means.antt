@@ -8,7 +8,6 @@ use Rattle.rb_tree.specs.Robot.{Tree, AreBodies}
 use Rattle.rb_tree.specs.Shape.{shape_of}
 use Rattle.rb_tree.specs.State.{Row}
 use Rattle.rb_flat.specs.Contact.{RowsFit}
-use Rattle.rb_work.specs.declared.names.RowFault.{RowFault}
 use Rattle.rb_work.specs.View.{View}
 use Rattle.rb_rnea.specs.Dynamics as Inverse
 use Rattle.rb_mass.specs.Mass as Mass
@@ -17,13 +16,14 @@ use Rattle.rb_constraint.specs.declared.constraints.Constraint.{Constraint}
 use Rattle.rb_constraint.specs.Constraints.{constraints_of}
 use Rattle.rb_contact.specs.Contact as Contact
 use Rattle.rb_contact.specs.Forward as Forward
+use Rattle.rb_impact.specs.Impact as Impact
 use Rattle.rb_aba.specs.Forward as Articulated
 use Rattle.rb_rows.specs.declared.task.Task.{Task}
 use Rattle.rb_rows.specs.declared.task.Task.TheVariants as task
 use Rattle.rb_run.specs.Answers.{AnswerMeans, upper_of}
 use Rattle.rb_run.specs.Jobs.{Suits}
 use Rattle.rb_run.specs.Meaning.{Encloses}
-use Rattle.rb_run.proofs.Enclosing.{torques_enclose, accelerations_enclose, articulated_enclose, masses_enclose, contact_encloses}
+use Rattle.rb_run.proofs.Enclosing.{torques_enclose, accelerations_enclose, articulated_enclose, masses_enclose, contact_encloses, impulse_encloses}
 use Rattle.rb_run.proofs.Upper.{upper_is}
 
 -- a step that is never refused leaves refusals as they are
@@ -93,6 +93,22 @@ module _ (tree : Tree) (cons : List Constraint) (row : Row) (kept : AreBodies tr
         );
       }
 
+  impulse_means : Impact.ImpactMeans tree row (constraints_of cons) → Impact.ImpactEncloses tree row (constraints_of cons) → AnswerMeans task.Impulse tree cons row
+  impulse_means means encloses =
+      let k = constraints_of cons in
+      let joined : List Interval × List Interval → List Interval = λ found. found.0 ++ found.1 in
+      record {
+        values = λ values is.
+            let step = then-ok (Impact.impact_of tree row k) (λ found. Ok (joined found)) values is in
+            let found = (means.values step.0).0 step.1 in
+            let same : joined step.0 ≡ values = same_ok (joined step.0) values step.2 in
+            subst (Encloses task.Impulse tree cons row) (ap joined found.2 ∙ same) (impulse_encloses tree cons row found.0 (encloses.values found.0 found.1));
+        refused = λ fault. (
+          (λ is. (means.refused fault).0 (refused_first (Impact.impact_of tree row k) joined fault is)),
+          (λ refused. refused_then (Impact.impact_of tree row k) joined fault ((means.refused fault).1 refused)),
+        );
+      }
+
   -- what is known of each algorithm; of articulated bodies where no joint follows another
   pub record EachMeans : Type 0 where
     pub torques : Inverse.AnswerMeans tree row
@@ -105,6 +121,8 @@ module _ (tree : Tree) (cons : List Constraint) (row : Row) (kept : AreBodies tr
     pub articulated_lie : Articulated.AllLead tree → Articulated.AnswerEncloses tree row
     pub contact : RowsFit (shape_of tree) (constraints_of cons) → Contact.ContactMeans tree row (constraints_of cons)
     pub contact_lie : RowsFit (shape_of tree) (constraints_of cons) → Contact.ContactEncloses tree row (constraints_of cons)
+    pub impulse : RowsFit (shape_of tree) (constraints_of cons) → Impact.ImpactMeans tree row (constraints_of cons)
+    pub impulse_lie : RowsFit (shape_of tree) (constraints_of cons) → Impact.ImpactEncloses tree row (constraints_of cons)
 
   pub answer_means : EachMeans → (asked : Task) → Suits asked tree cons → AnswerMeans asked tree cons row
   answer_means each task.Rnea suits = torques_mean each.torques each.torques_lie
@@ -112,4 +130,4 @@ module _ (tree : Tree) (cons : List Constraint) (row : Row) (kept : AreBodies tr
   answer_means each task.Fd suits = accelerations_mean each.accelerations each.accelerations_lie
   answer_means each task.Aba suits = let lead = suits.leads refl in articulated_mean (each.articulated lead) (each.articulated_lie lead)
   answer_means each task.Contact suits = contact_means (each.contact suits.fit) (each.contact_lie suits.fit)
-  answer_means each task.Impulse suits = absurd suits.built
+  answer_means each task.Impulse suits = impulse_means (each.impulse suits.fit) (each.impulse_lie suits.fit)

@@ -1,13 +1,13 @@
 -- Pairs of columns, and the entries of the mass table at them.
-use Rattle.std.proofs.Common.{◌≡◌, ◌<◌, ◌≤◌, ◌+◌, ◌-◌, ◌*◌, ◌/◌, ℕ, zero, suc, List, [], ◌∷◌, ◌++◌, length, map, flat_map, take, Some, refl, ◌∙◌, ap, sym, arith, append-nil, append_assoc, length-append, subst, inl, inr}
+use Rattle.std.proofs.Common.{◌≡◌, ◌<◌, ◌≤◌, ◌+◌, ◌-◌, ◌*◌, ◌/◌, ℕ, zero, suc, List, [], ◌∷◌, ◌++◌, length, map, flat_map, take, Some, refl, ◌∙◌, ap, sym, arith, append-nil, append_assoc, length-append, inl, inr}
 use Rattle.std.specs.List.{range_with_len}
-use Rattle.std.specs.Prelude.{slice_get, slice_index_or}
+use Rattle.std.specs.Prelude.{slice_get}
 use Rattle.std.proofs.lemmas.List.{map-append, take_all, length-map}
 use Rattle.std.proofs.lemmas.List.FromFn.{length-range_with_len, get_or-range_with_len}
 use Rattle.std.proofs.lemmas.Option.{get_or_from_slice_get, slice_get_within}
 use Rattle.std.proofs.lemmas.Bool.{cases_lt}
 use Rattle.std.proofs.lemmas.Simd.{map-map}
-use Rattle.rb_num.specs.Interval.{Interval, zero_interval}
+use Rattle.rb_num.specs.Interval.{Interval}
 use Rattle.rb_sweep.specs.Sweep.{upward, counting_up}
 use Rattle.rb_urdf.proofs.Zips.{slice_get-of_map}
 use Rattle.rb_work.specs.View.{View, mass_at}

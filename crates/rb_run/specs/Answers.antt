@@ -13,6 +13,7 @@ use Rattle.rb_rnea.specs.Dynamics as Inverse
 use Rattle.rb_mass.specs.Mass as Mass
 use Rattle.rb_contact.specs.Forward as Forward
 use Rattle.rb_contact.specs.Contact as Contact
+use Rattle.rb_impact.specs.Impact as Impact
 use Rattle.rb_aba.specs.Forward as Articulated
 use Rattle.rb_rows.specs.declared.faults.FieldFault.{FieldFault}
 use Rattle.rb_rows.specs.declared.task.Task.{Task}
@@ -37,14 +38,14 @@ abbrev pub upper_of : ℕ → List (List Interval) → List Interval
 upper_of count table = map (entry_of table) (pairs_of count)
 
 -- the one answer to a row: the torques, the upper entries of the mass table, the accelerations, those under constraints with the forces of the rows
--- behind them, or the first refusal on the way to them
+-- behind them, the speeds after an impact with the impulses of the rows behind them, or the first refusal on the way to them
 abbrev pub answer_for : Task → Tree → List Constraint → Row → Result (List Interval) RowFault
 answer_for task.Rnea tree cons row = Inverse.answer_of tree row
 answer_for task.Crba tree cons row = Mass.answer_of tree row >>= λ table. Ok (upper_of (column_count tree.bodies) table)
 answer_for task.Fd tree cons row = Forward.forward_of tree row
 answer_for task.Aba tree cons row = Articulated.answer_of tree row
 answer_for task.Contact tree cons row = Contact.contact_of tree row (constraints_of cons) >>= λ found. Ok (found.0 ++ found.1)
-answer_for unbuilt tree cons row = Ok []
+answer_for task.Impulse tree cons row = Impact.impact_of tree row (constraints_of cons) >>= λ found. Ok (found.0 ++ found.1)
 
 -- what a work holds for a pair of columns, and for all of them
 abbrev pub mass_of_pair : View → ℕ × ℕ → Interval
@@ -60,7 +61,7 @@ values_in task.Crba tree cons w = masses_in tree w
 values_in task.Fd tree cons w = Forward.accelerations_in tree w
 values_in task.Aba tree cons w = Articulated.accelerations_in tree w
 values_in task.Contact tree cons w = Forward.accelerations_in tree w ++ Contact.forces_in (constraints_of cons) w
-values_in unbuilt tree cons w = []
+values_in task.Impulse tree cons w = Impact.speeds_in tree w ++ Impact.impulses_in (constraints_of cons) w
 
 -- what the one answer means: values that enclose, or a refusal
 pub record AnswerMeans (asked : Task) (tree : Tree) (cons : List Constraint) (row : Row) : Type 0 where

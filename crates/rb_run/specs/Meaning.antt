@@ -6,6 +6,7 @@ use Rattle.rb_num.specs.Fraction.{LiesIn}
 use Rattle.rb_flat.specs.Choice.{Choice, IsChoice}
 use Rattle.rb_flat.specs.Dynamics.{Unknowns, InverseDynamics, HasOneSolution, SameUnknowns, SolvesInverse, SolvesForward, at_unit, no_force}
 use Rattle.rb_flat.specs.Contact.{Constraints, SameContact, SolvesContact}
+use Rattle.rb_flat.specs.Impact.{SameImpulses, SolvesImpact}
 use Rattle.rb_flat.specs.Mechanism.{mechanism_of}
 use Rattle.rb_flat.specs.Shape.{Shape}
 use Rattle.rb_tree.specs.Columns.{column_count}
@@ -19,6 +20,7 @@ use Rattle.rb_rnea.specs.Dynamics as Inverse
 use Rattle.rb_mass.specs.Mass as Mass
 use Rattle.rb_contact.specs.Forward as Forward
 use Rattle.rb_contact.specs.Contact as Contact
+use Rattle.rb_impact.specs.Impact as Impact
 use Rattle.rb_aba.specs.Forward as Articulated
 use Rattle.rb_rows.specs.declared.task.Task.{Task}
 use Rattle.rb_rows.specs.declared.task.Task.TheVariants as task
@@ -53,6 +55,13 @@ pub record HasContactWithin (tree : Tree) (choice : Choice) (numbers : Constrain
       LiesIn (one.solution.tree.joint_acceleration (k + 1)) acceleration
   pub forces : (k : ℕ) (force : Interval) → slice_get values (column_count tree.bodies + k) ≡ Some force → LiesIn (one.solution.row_force (k + 1)) force
 
+-- an impact on rows with these numbers: its equations have exactly one solution. Its speeds of the columns after lie in the first of these, and the
+-- impulses of its rows in those behind them.
+pub record HasImpulsesWithin (tree : Tree) (choice : Choice) (numbers : Constraints Frac) (values : List Interval) : Type 0 where
+  pub one : HasOneSolution (SameImpulses Same (shape_of tree) numbers) (SolvesImpact (shape_of tree) choice numbers)
+  pub speeds : (k : ℕ) (speed : Interval) → k < column_count tree.bodies → slice_get values k ≡ Some speed → LiesIn (one.solution.speed_after (k + 1)) speed
+  pub impulses : (k : ℕ) (impulse : Interval) → slice_get values (column_count tree.bodies + k) ≡ Some impulse → LiesIn (one.solution.row_impulse (k + 1)) impulse
+
 -- what the values of a task are for a choice; under constraints, for each choice of their numbers
 abbrev pub HasOneWithin : Task → Tree → List Constraint → Choice → List Interval → Type 0
 HasOneWithin task.Rnea tree cons choice values = HasTorquesWithin tree choice values
@@ -61,7 +70,8 @@ HasOneWithin task.Fd tree cons choice values = HasAccelerationsWithin tree choic
 HasOneWithin task.Aba tree cons choice values = HasAccelerationsWithin tree choice values
 HasOneWithin task.Contact tree cons choice values =
     (numbers : Constraints Frac) → IsConstraintChoice (constraints_of cons) numbers → HasContactWithin tree choice numbers values
-HasOneWithin unbuilt tree cons choice values = ⊥
+HasOneWithin task.Impulse tree cons choice values =
+    (numbers : Constraints Frac) → IsConstraintChoice (constraints_of cons) numbers → HasImpulsesWithin tree choice numbers values
 
 -- so it is for each choice within the brackets of the robot and the row, and there are as many values as the task has
 pub record Encloses (asked : Task) (tree : Tree) (cons : List Constraint) (row : Row) (values : List Interval) : Type 0 where
@@ -76,4 +86,4 @@ IsRefusedFor task.Crba tree cons row fault = Mass.IsRefused tree row fault
 IsRefusedFor task.Fd tree cons row fault = Forward.IsForwardRefused tree row fault
 IsRefusedFor task.Aba tree cons row fault = Articulated.IsRefused tree row fault
 IsRefusedFor task.Contact tree cons row fault = Contact.IsContactRefused tree row (constraints_of cons) fault
-IsRefusedFor unbuilt tree cons row fault = ⊥
+IsRefusedFor task.Impulse tree cons row fault = Impact.IsImpactRefused tree row (constraints_of cons) fault

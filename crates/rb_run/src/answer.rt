@@ -11,6 +11,7 @@ use crate::slot::{Answer, Slot, SlotInput};
 use crate::values::Values;
 use rb_aba::aba;
 use rb_contact::{contact, forward};
+use rb_impact::impulse;
 use rb_mass::crba;
 use rb_rnea::rnea;
 use rb_rows::Task;
@@ -34,7 +35,7 @@ fn find(job: &Job, state: &State, work: &mut Work) -> Result<(), RowFault>
         Task::Fd => forward(&job.robot, state, work),
         Task::Aba => aba(&job.robot, state, work),
         Task::Contact => contact(&job.robot, &job.cons, state, work),
-        Task::Impulse => Ok(()),
+        Task::Impulse => impulse(&job.robot, &job.cons, state, work),
     }
 }
 

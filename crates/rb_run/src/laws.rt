@@ -20,5 +20,6 @@ pub fn answer_law()
     rb_mass::table_law();
     rb_contact::laws::answer_law();
     rb_contact::laws::contact_answer_law();
+    rb_impact::laws::impact_answer_law();
     rb_aba::laws::answer_law();
 }

@@ -7,6 +7,7 @@ ghost use Rattle.rb_rnea.specs.Dynamics.{torques_in};
 ghost use Rattle.rb_constraint.specs.Constraints.{constraints_of};
 ghost use Rattle.rb_contact.specs.Forward.{accelerations_in};
 ghost use Rattle.rb_contact.specs.Contact.{forces_in};
+ghost use Rattle.rb_impact.specs.Impact.{speeds_in, impulses_in};
 ghost use Rattle.rb_rows.specs.Head.{pairs_at};
 ghost use Rattle.rb_run.specs.Answers.{mass_of_pair, masses_in, values_in};
 ghost use Rattle.rb_run.specs.Jobs.{IsJob, IsWorkOf};
@@ -95,7 +96,19 @@ fn put_masses(robot: &Robot, work: &Work, masses: &mut [Iv])
     }
 }
 
-/// Puts the forces of the rows of a work.
+/// Puts the speeds after an impact of a work.
+fn put_speeds(robot: &Robot, work: &Work, speeds: &mut [Iv])
+    requires work { IsFor robot.now work.now }
+    requires length { length speeds.old ≡ column_count robot.now.bodies }
+    ensures speeds { speeds.new ≡ speeds_in robot.now work.now }
+    ensures length { length speeds.new ≡ length speeds.old }
+{
+    for c in 1..robot.nv() + 1 {
+        speeds[c as usize - 1] = work.speed_after(c);
+    }
+}
+
+/// Puts the forces of the rows of a work; after an impact, their impulses.
 fn put_forces(cons: &Constraints, work: &Work, forces: &mut [Iv])
     requires work { (constraints_of cons.now).rows ≤ work.now.rows }
     requires length { length forces.old ≡ (constraints_of cons.now).rows }
@@ -120,6 +133,19 @@ fn put_contact(robot: &Robot, cons: &Constraints, work: &Work, values: &mut [Iv]
     put_forces(cons, work, forces);
 }
 
+/// Puts the speeds after an impact of a work, and the impulses of the rows behind them.
+fn put_impact(robot: &Robot, cons: &Constraints, work: &Work, values: &mut [Iv])
+    requires work { IsFor robot.now work.now }
+    requires rows { (constraints_of cons.now).rows ≤ work.now.rows }
+    requires length { length values.old ≡ column_count robot.now.bodies + (constraints_of cons.now).rows }
+    ensures values { values.new ≡ speeds_in robot.now work.now ++ impulses_in (constraints_of cons.now) work.now }
+    ensures length { length values.new ≡ length values.old }
+{
+    let (speeds, impulses) = values.split_at_mut(robot.nv() as usize);
+    put_speeds(robot, work, speeds);
+    put_forces(cons, work, impulses);
+}
+
 /// Puts what a work holds for the values of a row.
 fn put_values(job: &Job, work: &Work, values: &mut [Iv])
     requires task { IsJob job.now }
@@ -133,12 +159,12 @@ fn put_values(job: &Job, work: &Work, values: &mut [Iv])
         Task::Crba => put_masses(&job.robot, work, values),
         Task::Fd | Task::Aba => put_accelerations(&job.robot, work, values),
         Task::Contact => put_contact(&job.robot, &job.cons, work, values),
-        Task::Impulse => {}
+        Task::Impulse => put_impact(&job.robot, &job.cons, work, values),
     }
 }
 
-/// The values of the answer of a row: the torques or the accelerations from column 1 on, under constraints the forces of their rows behind them, or the
-/// entries of the mass table at each two columns, by rows.
+/// The values of the answer of a row: the torques, the accelerations or the speeds after an impact from column 1 on, under constraints the forces or the
+/// impulses of their rows behind them, or the entries of the mass table at each two columns, by rows.
 #[derive(Debug, Drop)]
 pub struct Values {
     items: Vec<Iv>,

@@ -1,5 +1,4 @@
-use Rattle.std.proofs.Common.{◌≡◌, OnOk}
-use Rattle.rb_run.proofs.Answering.{torques_found, masses_found, masses_answer, accelerations_found, articulated_found, contact_found, contact_answer}
+use Rattle.rb_run.proofs.Answering.{torques_found, masses_found, masses_answer, accelerations_found, articulated_found, contact_found, contact_answer, impulse_found, impulse_answer}
 use Rattle.rb_run.proofs.answer.find.Goals as goal
 
 pub returns-in-Rnea-clause-headline : goal.returns-in-Rnea-clause-headline
@@ -25,3 +24,9 @@ returns-in-Contact-clause-exact c = contact_answer _ c.in-Contact.is _ _ _ _ _ c
 
 pub returns-in-Contact-clause-headline : goal.returns-in-Contact-clause-headline
 returns-in-Contact-clause-headline c = contact_found _ c.in-Contact.is _ _ _ _ _ c.contact.ensures.encloses
+
+pub returns-in-Impulse-clause-exact : goal.returns-in-Impulse-clause-exact
+returns-in-Impulse-clause-exact c = impulse_answer _ c.in-Impulse.is _ _ _ _ _ c.impulse.ensures.answer
+
+pub returns-in-Impulse-clause-headline : goal.returns-in-Impulse-clause-headline
+returns-in-Impulse-clause-headline c = impulse_found _ c.in-Impulse.is _ _ _ _ _ c.impulse.ensures.encloses

@@ -16,6 +16,8 @@ returns c = record {
         articulated = λ lead. c.answer_law-4.ensures.means tree row kept lead;
         contact = λ fit. c.contact_answer_law.ensures.means tree row (constraints_of cons) kept fit are.few;
         contact_lie = λ fit. c.contact_answer_law.ensures.encloses tree row (constraints_of cons) kept fit;
+        impulse = λ fit. c.impact_answer_law.ensures.means tree row (constraints_of cons) kept fit are.few;
+        impulse_lie = λ fit. c.impact_answer_law.ensures.encloses tree row (constraints_of cons) kept fit;
         articulated_lie = λ lead. c.answer_law-4.ensures.encloses tree row kept lead;
       })
       asked suits;

@@ -1,6 +1,5 @@
-use Rattle.std.proofs.Common.{arith, ◌≡◌, ◌∙◌, ◌*◌, ◌+◌, ◌/◌, ℕ, ap, sym, map, length}
+use Rattle.std.proofs.Common.{arith, ◌∙◌, ◌*◌, ◌+◌, ◌/◌, ℕ, ap, sym, map}
 use Rattle.rb_work.specs.View.{columns_of}
-use Rattle.rb_tree.specs.Columns.{column_count}
 use Rattle.rb_rows.specs.Head.{pairs_of}
 use Rattle.rb_run.specs.Answers.{mass_of_pair}
 use Rattle.rb_run.proofs.Pairs.{masses_none, masses_room, masses_more, masses_whole}
