@@ -24,8 +24,6 @@ use Rattle.rb_run.specs.declared.slot.Slot.{Slot}
 use Rattle.rb_run.specs.Answers.{AnswerMeans, Told, answer_for, slot_of, slots_from, is_refused}
 use Rattle.rb_run.specs.Jobs.{Suits, IsJob}
 use Rattle.rb_run.specs.Line.{line_of}
-use Rattle.rb_words.specs.Words.{IsBuilt}
-use Rattle.rb_words.proofs.Orders.{commands_are_built}
 use Rattle.rb_words.specs.declared.order.Order.{Order}
 use Rattle.rb_words.specs.declared.order.Order.TheVariants as order
 use Rattle.rbd.specs.declared.stop.RowsFault.{RowsFault}
@@ -48,12 +46,12 @@ EachMeans = (asked : Task) (tree : Tree) (cons : List Constraint) (row : Row) �
 
 module _ (means : EachMeans) where
   line_means : (job : Job) → IsJob job → AreBodies job.robot.bodies → AreConstraints job.cons → (number : ℕ) (told : Told) (line : List ℕ) → line ≡ line_of job.echo (slot_of job number told) → Means job number told line
-  line_means job built kept under number (Err fault) line is = is
-  line_means job built kept under number (Ok row) line is = by_answer (answer_for job.task job.robot job.cons row) refl
+  line_means job suits kept under number (Err fault) line is = is
+  line_means job suits kept under number (Ok row) line is = by_answer (answer_for job.task job.robot job.cons row) refl
     where
       by_answer : (answer : Result (List Interval) RowFault) → answer_for job.task job.robot job.cons row ≡ answer → IsAnswered job number row line ⊎ IsRefusal job number row line
-      by_answer (Ok values) answers = inl (record { values = values; says = rw answers at is; exact = answers; means = (means job.task job.robot job.cons row built kept under).values values answers })
-      by_answer (Err fault) answers = inr (record { fault = fault; says = rw answers at is; exact = answers; means = ((means job.task job.robot job.cons row built kept under).refused fault).0 answers })
+      by_answer (Ok values) answers = inl (record { values = values; says = rw answers at is; exact = answers; means = (means job.task job.robot job.cons row suits kept under).values values answers })
+      by_answer (Err fault) answers = inr (record { fault = fault; says = rw answers at is; exact = answers; means = ((means job.task job.robot job.cons row suits kept under).refused fault).0 answers })
 
 -- the line at a place is that of what the row there told
 line_at : (job : Job) (number : ℕ) (told : List Told) (k : ℕ) (here : Told) (line : List ℕ) → slice_get told k ≡ Some here → slice_get (lines_of job (slots_from job number told)) k ≡ Some line
@@ -102,10 +100,6 @@ ending_is None answers refused is = record { none = refl; is = cc }
 ending_is (Some fault) answers refused is = absurd cc
 
 -- ---- a run
--- what is asked for is built
-plan_built : (words : List (List ℕ)) (held : List ℕ → List ℕ) (plan : Plan) → IsPlan words held plan → IsBuilt plan.order
-plan_built words held plan planned = subst IsBuilt (ap (λ (p : Plan). p.order) (sym planned.asked)) (commands_are_built words planned.command planned.told)
-
 -- those of a plan are between bodies of its robot
 plan_fits : RowsFitRobot → (words : List (List ℕ)) (held : List ℕ → List ℕ) (plan : Plan) → IsPlan words held plan → RowsFit (shape_of plan.tree) (constraints_of plan.constraints)
 plan_fits fits words held plan planned = by_file (constraints_held planned.command held) planned.constraints
@@ -125,8 +119,8 @@ module _ (means : EachMeans) (fits : RowsFitRobot)
     (words : List (List ℕ)) (inputs : Source) (out : Stream) (ended : Status) (refused : Bool) (is : ended ≡ status_of (Ok refused)) (told : IsTrue out.tells) where
   rows_proved : (job : Job) (asked : Plan) → IsJob job → AreBodies job.robot.bodies → AreConstraints job.cons → asked.tree ≡ job.robot → (read : Result Rows RowsFault) → rows_of asked.tree (inputs.holds asked.rows) ≡ read → Follows (course_of_rows job asked.start read) out (Ok refused)
       → AreAnswered asked job inputs out ended
-  rows_proved job asked built kept under same (Err fault) read follows = let e : Ok refused ≡ Err (AtRows fault) = follows.answers refl in absurd cc
-  rows_proved job asked built kept under same (Ok found) read follows =
+  rows_proved job asked suits kept under same (Err fault) read follows = let e : Ok refused ≡ Err (AtRows fault) = follows.answers refl in absurd cc
+  rows_proved job asked suits kept under same (Ok found) read follows =
       let told_all = inputs_of asked.start found in
       let end = ending_is (long_line found) (slots_of job asked.start found) refused (follows.answers refl) in
       record {
@@ -138,7 +132,7 @@ module _ (means : EachMeans) (fits : RowsFitRobot)
         count = lines_counted job 1 told_all ∙ inputs_counted asked.start found end.none;
         each = λ k here line there put.
             let number : 1 + k ≡ k + 1 = omega arith in
-            line_means means job built kept under (k + 1) here line (line_at job 1 told_all k here line there put ∙ ap (λ (m : ℕ). line_of job.echo (slot_of job m here)) number);
+            line_means means job suits kept under (k + 1) here line (line_at job 1 told_all k here line there put ∙ ap (λ (m : ℕ). line_of job.echo (slot_of job m here)) number);
         status = is ∙ ap (λ (b : Bool). status_of (Ok b)) end.is;
       }
 
@@ -149,18 +143,18 @@ module _ (means : EachMeans) (fits : RowsFitRobot)
       let e : refused ≡ false = cc in
       record { put = follows.whole refl told; status = is ∙ ap (λ (b : Bool). status_of (Ok b)) e }
 
-  order_proved : (asked : Plan) → AreBodies asked.tree.bodies → RowsFit (shape_of asked.tree) (constraints_of asked.constraints) → AreConstraints asked.constraints → (what : Order) → IsBuilt what → Leads what asked.tree → Follows (course_by what asked inputs.holds) out (Ok refused) → IsWritten what asked inputs out ended
-  order_proved asked kept fit under (order.Rows task) built leads follows =
-      rows_proved (job_of asked task) asked (record { built = built; leads = λ is. leads (ap order.Rows is); fit = fit }) kept under refl (rows_of asked.tree (inputs.holds asked.rows)) refl follows
-  order_proved asked kept fit under order.Model built leads follows = text_proved (model_text asked.tree asked.start.q) follows
-  order_proved asked kept fit under order.Columns built leads follows = text_proved (names_text (state_columns asked.tree)) follows
+  order_proved : (asked : Plan) → AreBodies asked.tree.bodies → RowsFit (shape_of asked.tree) (constraints_of asked.constraints) → AreConstraints asked.constraints → (what : Order) → Leads what asked.tree → Follows (course_by what asked inputs.holds) out (Ok refused) → IsWritten what asked inputs out ended
+  order_proved asked kept fit under (order.Rows task) leads follows =
+      rows_proved (job_of asked task) asked (record { leads = λ is. leads (ap order.Rows is); fit = fit }) kept under refl (rows_of asked.tree (inputs.holds asked.rows)) refl follows
+  order_proved asked kept fit under order.Model leads follows = text_proved (model_text asked.tree asked.start.q) follows
+  order_proved asked kept fit under order.Columns leads follows = text_proved (names_text (state_columns asked.tree)) follows
 
   course_proved : (course : Course) → IsCourse words inputs.holds course → Follows course out (Ok refused) → IsProved words inputs out ended
   course_proved course (IsCourse.stops stop planless) follows = let e : Ok refused ≡ Err stop = follows.answers refl in absurd cc
   course_proved course (IsCourse.goes plan planned) follows = record {
     plan = plan;
     is_plan = planned;
-    written = order_proved plan planned.robot.kept (plan_fits fits words inputs.holds plan planned) (plan_kept words inputs.holds plan planned) plan.order (plan_built words inputs.holds plan planned) planned.leads follows;
+    written = order_proved plan planned.robot.kept (plan_fits fits words inputs.holds plan planned) (plan_kept words inputs.holds plan planned) plan.order planned.leads follows;
   }
 
   never_early : ((Ok refused ≡ Err AtInput) ⊎ (Ok refused ≡ Err Memory)) → IsProved words inputs out ended

@@ -183,7 +183,7 @@ plan order tree start constraints rows echo =
 abbrev pub plan_of : Asked → Tree → Row → List Constraint → Plan
 plan_of command tree start constraints = plan command.order tree start constraints command.rows command.echo
 
--- what is asked of each row. Only `contact` looks at the constraints.
+-- what is asked of each row. Only `contact` and `impulse` look at the constraints.
 abbrev pub job_of : Plan → Task → Job
 job_of plan task = record { robot = plan.tree; cons = plan.constraints; task = task; echo = plan.echo }
 

@@ -12,7 +12,6 @@ ghost use Rattle.rb_run.specs.Jobs.{IsJob};
 ghost use Rattle.rb_tree.specs.Columns.{has_mimic};
 ghost use Rattle.rb_tree.specs.Shape.{shape_of};
 ghost use Rattle.rb_tree.specs.State.{Fits};
-ghost use Rattle.rb_words.specs.Words.{IsBuilt};
 ghost use Rattle.rbd.specs.Course.{tells as text_course};
 ghost use Rattle.rbd.specs.Plan.{plan, articulated, Leads};
 ghost use Rattle.rbd.specs.Run.{source, stream, Follows, Obeys, Goes, Ends, IsComplete, IsRest};
@@ -103,7 +102,6 @@ fn obey<I: Inputs, O: Sink>(
     inputs: &mut I,
     out: &mut O,
 ) -> Result<bool, Stop>
-    requires built { IsBuilt command.now.order }
     requires leads { Leads command.now.order robot }
     requires fit { RowsFit (shape_of robot) (constraints_of cons) }
     requires start { Fits robot start.now }
@@ -142,7 +140,8 @@ fn is_unfit(order: Order, robot: &Robot) -> bool
     }
 }
 
-/// The steps of a run, up to the first that stops it. Tells whether a row is refused. Only `contact` uses the constraints.
+/// The steps of a run, up to the first that stops it. Tells whether a row is refused. Only `contact` and `impulse` use the
+/// constraints.
 fn steps<I: Inputs, O: Sink>(
     alloc: Global,
     words: &[String],
