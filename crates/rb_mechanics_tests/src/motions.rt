@@ -1,9 +1,8 @@
 use rb_num::{Iv, NumFault};
 use rb_spatial::{
-    BodyInertia, Force, Mat3, Motion, Place, Vec3, apply, apply_dual, carry, cross, cross_dual,
-    less_outer, power, sum, table, times, times_body,
+    BodyInertia, Force, Inertia6, Mat3, Motion, Place, Vec3, apply, apply_dual, carry, cross,
+    cross_dual, less_outer, power, sum, table, times, times_body,
 };
-use std::test::Fail;
 
 // The whole number `n`.
 fn whole(n: i32) -> Iv {
@@ -29,23 +28,28 @@ fn force(lin: (i32, i32, i32), ang: (i32, i32, i32)) -> Force {
     }
 }
 
-// The body's axes are the parent's, turned by a quarter about x, y or z; its origin is (1, 2, 3).
-fn quarter_turns() -> [Place; 3] {
-    let r = vector(1, 2, 3);
-    [
-        Place {
-            e: Mat3::new(vector(1, 0, 0), vector(0, 0, 1), vector(0, -1, 0)),
-            r,
-        },
-        Place {
-            e: Mat3::new(vector(0, 0, -1), vector(0, 1, 0), vector(1, 0, 0)),
-            r,
-        },
-        Place {
-            e: Mat3::new(vector(0, 1, 0), vector(-1, 0, 0), vector(0, 0, 1)),
-            r,
-        },
-    ]
+// The body's axes are the parent's, turned by a quarter about x; its origin is (1, 2, 3).
+fn quarter_about_x() -> Place {
+    Place {
+        e: Mat3::new(vector(1, 0, 0), vector(0, 0, 1), vector(0, -1, 0)),
+        r: vector(1, 2, 3),
+    }
+}
+
+// The same about y.
+fn quarter_about_y() -> Place {
+    Place {
+        e: Mat3::new(vector(0, 0, -1), vector(0, 1, 0), vector(1, 0, 0)),
+        r: vector(1, 2, 3),
+    }
+}
+
+// The same about z.
+fn quarter_about_z() -> Place {
+    Place {
+        e: Mat3::new(vector(0, 1, 0), vector(-1, 0, 0), vector(0, 0, 1)),
+        r: vector(1, 2, 3),
+    }
 }
 
 fn body(mass: i32, first: (i32, i32, i32), six: [i32; 6]) -> BodyInertia {
@@ -68,144 +72,163 @@ fn some_body() -> BodyInertia {
     body(2, (1, 2, 3), [10, 1, 2, 20, 3, 30])
 }
 
+// Whether the motion is this one at the place.
+fn moves(place: Place, m: &Motion, want: Motion) -> bool {
+    matches!(apply(&place, m), Ok(found) if found == want)
+}
+
 #[test]
-fn motions_turn(rt: HostRuntime) -> Result<(), Fail> {
+fn motions_turn(rt: HostRuntime) {
     let m = motion((4, 5, 6), (7, 8, 9));
     // lin + ang x r is (10, -7, 12).
-    let wanted = [
-        motion((10, 12, 7), (7, 9, -8)),
-        motion((-12, -7, 10), (-9, 8, 7)),
-        motion((-7, -10, 12), (8, -7, 9)),
-    ];
-    for (place, want) in quarter_turns().iter().zip(wanted.iter()) {
-        assert_eq!(rt; apply(place, &m)?, *want);
-    }
-    Ok(())
+    assert!(rt;
+        moves(quarter_about_x(), &m, motion((10, 12, 7), (7, 9, -8)))
+            && moves(quarter_about_y(), &m, motion((-12, -7, 10), (-9, 8, 7)))
+            && moves(quarter_about_z(), &m, motion((-7, -10, 12), (8, -7, 9)))
+    );
+}
+
+// Whether the force at the place is this one outside.
+fn pushes(place: Place, f: &Force, want: Force) -> bool {
+    matches!(apply_dual(&place, f), Ok(found) if found == want)
 }
 
 #[test]
-fn forces_turn(rt: HostRuntime) -> Result<(), Fail> {
+fn forces_turn(rt: HostRuntime) {
     let f = force((1, 2, 3), (4, 5, 6));
     // The force turns back to (1, -3, 2), (3, 2, -1) and (-2, 1, 3).
-    let wanted = [
-        force((1, -3, 2), (17, -5, 0)),
-        force((3, 2, -1), (-2, 15, -8)),
-        force((-2, 1, 3), (-2, -5, 11)),
-    ];
-    for (place, want) in quarter_turns().iter().zip(wanted.iter()) {
-        assert_eq!(rt; apply_dual(place, &f)?, *want);
-    }
-    Ok(())
-}
-
-#[test]
-fn products(rt: HostRuntime) -> Result<(), Fail> {
-    let a = motion((1, 2, 3), (4, 5, 6));
-    let b = motion((7, 8, 9), (-1, 0, 2));
-    assert_eq!(rt; cross(&a, &b)?, motion((1, 1, -1), (10, -14, 5)));
-
-    let f = force((7, 8, 9), (-1, 0, 2));
-    assert_eq!(rt; cross_dual(&a, &f)?, force((-3, 6, -3), (4, -2, -1)));
-    assert_eq!(rt; power(&a, &f)?, whole(58));
-    Ok(())
-}
-
-#[test]
-fn inertias(rt: HostRuntime) -> Result<(), Fail> {
-    let i = table(&some_body());
-    let entries = [
-        ((0, 0), 2),
-        ((4, 0), 3),
-        ((2, 4), -1),
-        ((3, 5), 2),
-        ((4, 4), 20),
-    ];
-    for ((r, c), want) in entries {
-        assert_eq!(rt; i.get(r, c), whole(want), "row {r}, column {c}");
-    }
-
-    // 2 u + w x h, and the six numbers times w, and h x u.
-    let m = motion((3, 2, 1), (4, 5, 6));
-    assert_eq!(rt; times(&i, &m)?, force((9, -2, 5), (53, 130, 199)));
-    assert_eq!(rt;
-        times_body(&some_body(), &m)?,
-        force((9, -2, 5), (53, 130, 199))
+    assert!(rt;
+        pushes(quarter_about_x(), &f, force((1, -3, 2), (17, -5, 0)))
+            && pushes(quarter_about_y(), &f, force((3, 2, -1), (-2, 15, -8)))
+            && pushes(quarter_about_z(), &f, force((-2, 1, 3), (-2, -5, 11)))
     );
+}
 
-    let twice = body(4, (2, 4, 6), [20, 2, 4, 40, 6, 60]);
-    assert_eq!(rt; sum(&i, &i)?, table(&twice));
+// Whether a product, or a sum, of forces is this one.
+fn is_force(found: Result<Force, NumFault>, want: Force) -> bool {
+    matches!(found, Ok(force) if force == want)
+}
 
-    let less = less_outer(
-        &i,
-        &force((1, 2, 3), (4, 5, 6)),
-        &force((1, 1, 1), (2, 2, 2)),
-    )?;
-    let entries = [((0, 1), -1), ((3, 1), -7), ((5, 5), 18)];
-    for ((r, c), want) in entries {
-        assert_eq!(rt; less.get(r, c), whole(want), "row {r}, column {c}");
-    }
-    Ok(())
+#[test]
+fn products(rt: HostRuntime) {
+    let a = motion((1, 2, 3), (4, 5, 6));
+    let crossed = cross(&a, &motion((7, 8, 9), (-1, 0, 2)));
+    let f = force((7, 8, 9), (-1, 0, 2));
+    assert!(rt;
+        matches!(crossed, Ok(m) if m == motion((1, 1, -1), (10, -14, 5)))
+            && is_force(cross_dual(&a, &f), force((-3, 6, -3), (4, -2, -1)))
+            && matches!(power(&a, &f), Ok(found) if found == whole(58))
+    );
+}
+
+#[test]
+fn entries_of_an_inertia(rt: HostRuntime) {
+    let i = table(&some_body());
+    assert!(rt;
+        i.get(0, 0) == whole(2)
+            && i.get(4, 0) == whole(3)
+            && i.get(2, 4) == whole(-1)
+            && i.get(3, 5) == whole(2)
+            && i.get(4, 4) == whole(20)
+    );
+}
+
+// 2 u + w x h, and the six numbers times w, and h x u.
+#[test]
+fn momenta(rt: HostRuntime) {
+    let m = motion((3, 2, 1), (4, 5, 6));
+    let want = force((9, -2, 5), (53, 130, 199));
+    assert!(rt;
+        is_force(times(&table(&some_body()), &m), want)
+            && is_force(times_body(&some_body(), &m), want)
+    );
+}
+
+#[test]
+fn sums_of_inertias(rt: HostRuntime) {
+    let i = table(&some_body());
+    let twice = table(&body(4, (2, 4, 6), [20, 2, 4, 40, 6, 60]));
+    assert!(rt; matches!(sum(&i, &i), Ok(found) if found == twice));
+}
+
+#[test]
+fn an_inertia_less_a_product(rt: HostRuntime) {
+    let i = table(&some_body());
+    let u = force((1, 2, 3), (4, 5, 6));
+    let less = less_outer(&i, &u, &force((1, 1, 1), (2, 2, 2)));
+    assert!(rt;
+        matches!(less, Ok(found) if found.get(0, 1) == whole(-1) && found.get(3, 1) == whole(-7) && found.get(5, 5) == whole(18))
+    );
+}
+
+// Whether the inertia is that of this body, seen from outside the place.
+fn carries(place: Place, i: &Inertia6, want: BodyInertia) -> bool {
+    matches!(carry(&place, i), Ok(found) if found == table(&want))
 }
 
 // Mass 2 at (1, 0, 0) with the principal inertias 1, 2 and 3 about the centre. In the parent the
 // centre is at r and the turned (1, 0, 0), and the parallel axes give the six numbers there.
 #[test]
-fn carried_body(rt: HostRuntime) -> Result<(), Fail> {
+fn carried_body(rt: HostRuntime) {
     let i = table(&body(2, (2, 0, 0), [1, 0, 0, 4, 0, 5]));
-    let wanted = [
-        body(2, (4, 4, 6), [27, -8, -12, 29, -12, 18]),
-        body(2, (2, 4, 4), [19, -4, -4, 12, -8, 11]),
-        body(2, (2, 6, 6), [38, -6, -6, 21, -18, 23]),
-    ];
-    for (place, want) in quarter_turns().iter().zip(wanted.iter()) {
-        assert_eq!(rt; carry(place, &i)?, table(want));
-    }
-    Ok(())
+    let from_x = body(2, (4, 4, 6), [27, -8, -12, 29, -12, 18]);
+    let from_y = body(2, (2, 4, 4), [19, -4, -4, 12, -8, 11]);
+    let from_z = body(2, (2, 6, 6), [38, -6, -6, 21, -18, 23]);
+    assert!(rt;
+        carries(quarter_about_x(), &i, from_x)
+            && carries(quarter_about_y(), &i, from_y)
+            && carries(quarter_about_z(), &i, from_z)
+    );
 }
 
+// A product of the smallest numbers lies strictly between two of the grid.
 #[test]
-fn brackets(rt: HostRuntime) -> Result<(), Fail> {
-    // A product of the smallest numbers lies strictly between two of the grid.
+fn brackets(rt: HostRuntime) {
     let least = Iv::new(1, 1);
+    let zero = vector(0, 0, 0);
     let m = Motion {
         lin: Vec3::new(least, Iv::ZERO, Iv::ZERO),
-        ang: vector(0, 0, 0),
+        ang: zero,
     };
     let f = Force {
         lin: Vec3::new(least.neg(), Iv::ZERO, Iv::ZERO),
-        ang: vector(0, 0, 0),
+        ang: zero,
     };
-    assert_eq!(rt; power(&m, &f)?, Iv::new(-1, 0));
-    Ok(())
+    assert!(rt; matches!(power(&m, &f), Ok(found) if found == Iv::new(-1, 0)));
 }
 
 // The first step of each call has a product, or a sum, above the limit.
+fn refuses_motions(place: &Place, m: &Motion, f: &Force) -> bool {
+    matches!(apply(place, m), Err(NumFault::Size))
+        && matches!(apply_dual(place, f), Err(NumFault::Size))
+        && matches!(cross(m, m), Err(NumFault::Size))
+        && matches!(cross_dual(m, f), Err(NumFault::Size))
+        && matches!(power(m, f), Err(NumFault::Size))
+}
+
+// The same of calls that take an inertia.
+fn refuses_body(place: &Place, m: &Motion, f: &Force, body: &BodyInertia) -> bool {
+    let heavy = table(body);
+    matches!(times(&heavy, m), Err(NumFault::Size))
+        && matches!(times_body(body, m), Err(NumFault::Size))
+        && matches!(carry(place, &heavy), Err(NumFault::Size))
+        && matches!(sum(&heavy, &table(&some_body())), Err(NumFault::Size))
+        && matches!(less_outer(&heavy, f, f), Err(NumFault::Size))
+}
+
 #[test]
-fn refusals(rt: HostRuntime) -> Result<(), Fail> {
+fn refusals(rt: HostRuntime) {
     let limit = Iv::new(
         1_329_227_995_784_915_872_903_807_060_280_344_576,
         1_329_227_995_784_915_872_903_807_060_280_344_576,
     );
-    let [place, _, _] = quarter_turns();
+    let place = quarter_about_x();
     let far = Vec3::new(limit, limit, limit);
     let m = Motion { lin: far, ang: far };
     let f = Force { lin: far, ang: far };
-    let i = table(&some_body());
-    let heavy_body = BodyInertia {
+    let heavy = BodyInertia {
         mass: limit,
         ..some_body()
     };
-    let heavy = table(&heavy_body);
-    let size = Some(NumFault::Size);
-    assert_eq!(rt; apply(&place, &m).err(), size);
-    assert_eq!(rt; apply_dual(&place, &f).err(), size);
-    assert_eq!(rt; cross(&m, &m).err(), size);
-    assert_eq!(rt; cross_dual(&m, &f).err(), size);
-    assert_eq!(rt; power(&m, &f).err(), size);
-    assert_eq!(rt; times(&heavy, &m).err(), size);
-    assert_eq!(rt; times_body(&heavy_body, &m).err(), size);
-    assert_eq!(rt; carry(&place, &heavy).err(), size);
-    assert_eq!(rt; sum(&heavy, &i).err(), size);
-    assert_eq!(rt; less_outer(&heavy, &f, &f).err(), size);
-    Ok(())
+    assert!(rt; refuses_motions(&place, &m, &f) && refuses_body(&place, &m, &f, &heavy));
 }
