@@ -1,8 +1,7 @@
 //! Bodies of a robot file whose joints follow others.
-use crate::robots::robot_on;
+use crate::building::robot_on;
 use rb_num::Iv;
 use rb_tree::{Mimic, Robot};
-use std::test::*;
 
 // The knuckle, which is nearer to the root, and the tip, which is farther from it, follow the finger.
 const FINGER: &str =
@@ -37,11 +36,8 @@ fn following(multiplier: Iv, offset: Iv) -> Option<Mimic> {
     })
 }
 
-#[test]
-fn joints_above_and_below_follow_one(rt: HostRuntime) -> Result<(), Fail> {
-    let built = robot_on(rt.alloc(), FINGER, None).ok_or("the hand is read")?;
-    let hand = built.ok().ok_or("the hand is built")?;
-    assert!(rt; hand.has_mimic());
+// Whether the bodies of the hand start where they are to.
+fn has_followers(hand: &Robot) -> bool {
     let minus_two = Iv::new(-2_000_000_000_000, -2_000_000_000_000);
     let half = Iv::new(500_000_000_000, 500_000_000_000);
     let starts = [
@@ -51,16 +47,22 @@ fn joints_above_and_below_follow_one(rt: HostRuntime) -> Result<(), Fail> {
         (3, 1, 0, following(Iv::ONE, Iv::ZERO)),
         (4, 2, 1, None),
     ];
-    assert!(rt; has_starts(&hand, &starts));
-    assert_eq!(rt; hand.nq(), 3);
-    assert_eq!(rt; hand.nv(), 2);
-    assert_eq!(rt; hand.full(), 4);
-    // the thumb stands on the palm alone
-    assert!(rt; hand.ups() == [0, 1].as_slice());
-    if hand.nv() == 2 {
-        assert_eq!(rt; hand.column_body(1), 3);
-        assert_eq!(rt; hand.column_body(2), 5);
-        assert_eq!(rt; hand.up(2), 1);
-    }
-    Ok(())
+    hand.has_mimic() && has_starts(hand, &starts)
+}
+
+// Whether the columns are those of the finger and of the thumb, which stands on the palm alone.
+fn has_columns(hand: &Robot) -> bool {
+    hand.nq() == 3
+        && hand.nv() == 2
+        && hand.full() == 4
+        && hand.ups() == [0, 1].as_slice()
+        && hand.column_body(1) == 3
+        && hand.column_body(2) == 5
+        && hand.up(2) == 1
+}
+
+#[test]
+fn joints_above_and_below_follow_one(rt: HostRuntime) {
+    let hand = robot_on(rt.alloc(), FINGER, None);
+    assert!(rt; matches!(&hand, Some(hand) if has_followers(hand) && has_columns(hand)));
 }

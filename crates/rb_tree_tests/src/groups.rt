@@ -1,17 +1,25 @@
 //! The bodies of groups, and refusals of groups with places counted by hand.
-use crate::states::robot_of_two;
-use rb_tree::{Robot, TreeFault, TreeKind, WhichFile};
+use crate::building::{RefusedInside, Semantics, are_refused_inside};
+use rb_tree::{Robot, TreeKind};
 use std::alloc::Global;
-use std::test::*;
 
 // The bodies are base, upper, lower, tip and left.
 const ARM: &str =
     "<robot name='arm'><link name='left'/><link name='tip'/><link name='lower'/><link name='upper'/><link name='base'/><joint name='shoulder' type='revolute'><parent link='base'/><child link='upper'/></joint><joint name='elbow' type='revolute'><parent link='upper'/><child link='lower'/></joint><joint name='side' type='fixed'><parent link='upper'/><child link='left'/></joint><joint name='wrist' type='revolute'><parent link='lower'/><child link='tip'/></joint></robot>";
 
 // What stands in a robot, in a file of groups.
-fn semantics(alloc: Global, inside: &str) -> Result<String, Fail> {
-    Ok(format!(in alloc; "<robot name='arm'>{inside}</robot>")?)
-}
+const SEMANTICS: Semantics = Semantics {
+    urdf: ARM,
+    head: "<robot name='arm'>",
+    tail: "</robot>",
+};
+
+// The same in a group. The root's joint is fixed and has the name of a joint of the file; another virtual joint bears the tip.
+const ONE_GROUP: Semantics = Semantics {
+    urdf: ARM,
+    head: "<robot name='arm'><group name='g'>",
+    tail: "</group><virtual_joint name='shoulder' type='fixed' child_link='base'/><virtual_joint name='grasp' type='floating' child_link='tip'/></robot>",
+};
 
 // Whether these are the bodies of the group of a number.
 fn has_bodies(robot: &Robot, k: u32, bodies: &[u32]) -> bool {
@@ -23,8 +31,10 @@ fn is_named(robot: &Robot, k: u32, name: &str) -> bool {
     k < robot.groups() && robot.group_name(k) == name.as_bytes()
 }
 
-// What stands in a group, and its bodies. The root's joint is fixed and has the name of a joint of the file; another virtual joint bears the tip.
-const GROUPS: [(&str, &[u32]); 6] = [
+type Items = (&'static str, &'static [u32]);
+
+// What stands in a group, and its bodies.
+const GROUPS: [Items; 6] = [
     ("<link name='left'/><link name='base'/>", &[1, 5]),
     ("<chain base_link='base' tip_link='tip'/>", &[2, 3, 4]),
     ("<chain base_link='upper' tip_link='left'/>", &[5]),
@@ -36,40 +46,44 @@ const GROUPS: [(&str, &[u32]); 6] = [
     ("<joint name='grasp'/>", &[]),
 ];
 
-#[test]
-fn items_give_bodies(rt: HostRuntime) -> Result<(), Fail> {
-    let alloc = rt.alloc();
-    for (items, bodies) in GROUPS {
-        let text = format!(in alloc;
-            "<robot name='arm'><group name='g'>{items}</group><virtual_joint name='shoulder' type='fixed' child_link='base'/><virtual_joint name='grasp' type='floating' child_link='tip'/></robot>"
-        )?;
-        let built = robot_of_two(alloc, ARM, text.as_str(), None).ok_or("two files")?;
-        let robot = built.ok().ok_or("a robot")?;
-        assert!(rt; has_bodies(&robot, 0, bodies), "{items}");
-        assert!(rt; is_named(&robot, 0, "g"));
+fn give_bodies(alloc: Global, rows: &[Items]) -> bool {
+    for (items, bodies) in rows {
+        let robot = ONE_GROUP.robot(alloc, items);
+        if !matches!(&robot, Some(robot) if has_bodies(robot, 0, bodies) && is_named(robot, 0, "g"))
+        {
+            return false;
+        }
     }
-    Ok(())
+    true
+}
+
+#[test]
+fn items_give_bodies(rt: HostRuntime) {
+    assert!(rt; give_bodies(rt.alloc(), &GROUPS));
 }
 
 // Groups that hold groups that come later in the file.
 const HELD: &str =
     "<group name='all'><group name='arm'/><joint name='side'/></group><group name='arm'><group name='hand'/><chain base_link='base' tip_link='lower'/><group name='hand'/></group><group name='hand'><link name='tip'/></group>";
 
+fn has_all(robot: &Robot) -> bool {
+    robot.groups() == 3
+        && is_named(robot, 0, "all")
+        && has_bodies(robot, 0, &[2, 3, 4, 5])
+        && is_named(robot, 1, "arm")
+        && has_bodies(robot, 1, &[2, 3, 4])
+        && is_named(robot, 2, "hand")
+        && has_bodies(robot, 2, &[4])
+}
+
 #[test]
-fn groups_have_the_bodies_of_those_that_they_hold(rt: HostRuntime) -> Result<(), Fail> {
-    let alloc = rt.alloc();
-    let text = semantics(alloc, HELD)?;
-    let built = robot_of_two(alloc, ARM, text.as_str(), None).ok_or("two files")?;
-    let robot = built.ok().ok_or("a robot")?;
-    assert_eq!(rt; robot.groups(), 3);
-    assert!(rt; is_named(&robot, 0, "all") && has_bodies(&robot, 0, &[2, 3, 4, 5]));
-    assert!(rt; is_named(&robot, 1, "arm") && has_bodies(&robot, 1, &[2, 3, 4]));
-    assert!(rt; is_named(&robot, 2, "hand") && has_bodies(&robot, 2, &[4]));
-    Ok(())
+fn groups_have_the_bodies_of_those_that_they_hold(rt: HostRuntime) {
+    let robot = SEMANTICS.robot(rt.alloc(), HELD);
+    assert!(rt; matches!(&robot, Some(robot) if has_all(robot)));
 }
 
 // What stands in a robot, and the kind and the place of its fault. The first element is at 18.
-const FAULTS: [(&str, TreeKind, u64); 5] = [
+const FAULTS: [RefusedInside; 5] = [
     (
         "<group name='g'><link name='elbow'/></group>",
         TreeKind::UnknownName,
@@ -98,18 +112,6 @@ const FAULTS: [(&str, TreeKind, u64); 5] = [
 ];
 
 #[test]
-fn groups_are_refused(rt: HostRuntime) -> Result<(), Fail> {
-    let alloc = rt.alloc();
-    for (inside, kind, at) in FAULTS {
-        let text = semantics(alloc, inside)?;
-        let fault = TreeFault {
-            kind,
-            file: WhichFile::Srdf,
-            at,
-        };
-        assert!(rt;
-            matches!(robot_of_two(alloc, ARM, text.as_str(), None), Some(Err(found)) if found == fault)
-        );
-    }
-    Ok(())
+fn groups_are_refused(rt: HostRuntime) {
+    assert!(rt; are_refused_inside(rt.alloc(), &SEMANTICS, &FAULTS));
 }

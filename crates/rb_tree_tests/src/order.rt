@@ -1,9 +1,9 @@
 //! Orders and refusals over file texts, with places counted by hand.
-use crate::robots::robot_on;
+use crate::building::{fault_on, robot_on};
 use rb_tags::RootKind;
 use rb_tree::{Robot, TreeFault, TreeKind, WhichFile};
-use std::alloc::Global;
-use std::test::Fail;
+use std::alloc::{AllocError, Global};
+use std::test::*;
 
 const LEVEL: Option<RootKind> = Some(RootKind::Planar);
 
@@ -33,32 +33,10 @@ pub(crate) fn has_stems(robot: &Robot, stems: &[Stem]) -> bool {
     robot.bodies() == number
 }
 
-fn has_order(alloc: Global, text: &str, stems: &[Stem]) -> bool {
-    matches!(robot_on(alloc, text, None), Some(Ok(robot)) if has_stems(&robot, stems))
-}
-
-fn ends_with(alloc: Global, text: &str, count: u32, last: Stem) -> bool {
-    let (link, joint, parent) = last;
-    matches!(robot_on(alloc, text, None), Some(Ok(robot)) if robot.bodies() == count && is_borne(&robot, count, link, joint, parent))
-}
-
-pub(crate) fn has_fault(
-    alloc: Global,
-    text: &str,
-    root: Option<RootKind>,
-    kind: TreeKind,
-    at: u64,
-) -> bool {
-    let fault = TreeFault {
-        kind,
-        file: WhichFile::Urdf,
-        at,
-    };
-    matches!(robot_on(alloc, text, root), Some(Err(found)) if found == fault)
-}
+type Ordered = (&'static str, &'static [Stem]);
 
 // A file, and its bodies. They come depth first and in the order of their joints. The joint of the last has the name of that of a root that moves.
-const ORDERS: [(&str, &[Stem]); 3] = [
+const ORDERS: [Ordered; 3] = [
     (
         "<robot name='r'><link name='c'/><link name='b'/><link name='a'/><joint name='j' type='fixed'><parent link='b'/><child link='c'/></joint><joint name='k' type='fixed'><parent link='a'/><child link='b'/></joint></robot>",
         &[("a", "root_joint", 0), ("b", "k", 1), ("c", "j", 2)],
@@ -78,15 +56,44 @@ const ORDERS: [(&str, &[Stem]); 3] = [
     ),
 ];
 
+fn are_ordered(alloc: Global, rows: &[Ordered]) -> bool {
+    for (text, stems) in rows {
+        let robot = robot_on(alloc, text, None);
+        if !matches!(&robot, Some(robot) if has_stems(robot, stems)) {
+            return false;
+        }
+    }
+    true
+}
+
 #[test]
 fn bodies_have_an_order(rt: HostRuntime) {
-    for (text, stems) in ORDERS {
-        assert!(rt; has_order(rt.alloc(), text, stems));
-    }
+    assert!(rt; are_ordered(rt.alloc(), &ORDERS));
 }
 
 // A file, the kind of its root, and the kind and the place of its fault.
-const FAULTS: [(&str, Option<RootKind>, TreeKind, u64); 7] = [
+pub(crate) type Refused = (&'static str, Option<RootKind>, TreeKind, u64);
+
+// Whether the robot of a file, with this root, is refused so.
+fn has_fault(alloc: Global, text: &str, root: Option<RootKind>, kind: TreeKind, at: u64) -> bool {
+    let fault = TreeFault {
+        kind,
+        file: WhichFile::Urdf,
+        at,
+    };
+    fault_on(alloc, text, root) == Some(fault)
+}
+
+pub(crate) fn are_refused(alloc: Global, rows: &[Refused]) -> bool {
+    for (text, root, kind, at) in rows {
+        if !has_fault(alloc, text, *root, *kind, *at) {
+            return false;
+        }
+    }
+    true
+}
+
+const FAULTS: [Refused; 7] = [
     (
         " <robot name='r'><link name='a'/><link name='b'/><joint name='j' type='fixed'><parent link='a'/><child link='b'/></joint><joint name='k' type='fixed'><parent link='b'/><child link='a'/></joint></robot>",
         None,
@@ -133,9 +140,7 @@ const FAULTS: [(&str, Option<RootKind>, TreeKind, u64); 7] = [
 
 #[test]
 fn trees_are_refused(rt: HostRuntime) {
-    for (text, root, kind, at) in FAULTS {
-        assert!(rt; has_fault(rt.alloc(), text, root, kind, at));
-    }
+    assert!(rt; are_refused(rt.alloc(), &FAULTS));
 }
 
 // A file, and the places of its last link and of its last joint.
@@ -146,42 +151,71 @@ struct Star {
     joint: u64,
 }
 
-// Links on a first one, by joints of this kind.
-fn star_of(alloc: Global, kind: &str, count: u32) -> Result<Star, Fail> {
-    let mut text = String::from_str(alloc, "<robot name='r'><link name='l'/>")?;
-    let (mut link, mut joint) = (0, 0);
-    for number in 0..count {
-        link = text.len() as u64;
+impl Star {
+    // Adds a link of this number on the first one, by a joint of this kind.
+    fn add(&mut self, alloc: Global, kind: &str, number: u32) -> Result<(), AllocError> {
+        self.link = self.text.len() as u64;
         let child = format!(in alloc; "<link name='l{number}'/>")?;
-        text.push_str(child.as_str())?;
-        joint = text.len() as u64;
+        self.text.push_str(child.as_str())?;
+        self.joint = self.text.len() as u64;
         let bearer = format!(in alloc;
             "<joint name='j{number}' type='{kind}'><parent link='l'/><child link='l{number}'/></joint>"
         )?;
-        text.push_str(bearer.as_str())?;
+        self.text.push_str(bearer.as_str())
     }
-    text.push_str("</robot>")?;
-    Ok(Star { text, link, joint })
+}
+
+// Links on a first one, by joints of this kind.
+fn star_of(alloc: Global, kind: &str, count: u32) -> Result<Star, AllocError> {
+    let mut star = Star {
+        text: String::from_str(alloc, "<robot name='r'><link name='l'/>")?,
+        link: 0,
+        joint: 0,
+    };
+    for number in 0..count {
+        star.add(alloc, kind, number)?;
+    }
+    star.text.push_str("</robot>")?;
+    Ok(star)
+}
+
+// Whether the star of so many links on a first one has so many bodies, of which this is the last.
+fn ends_with(alloc: Global, kind: &str, links: u32, bodies: u32, last: Stem) -> bool {
+    let Ok(star) = star_of(alloc, kind, links) else {
+        return false;
+    };
+    let (link, joint, parent) = last;
+    let robot = robot_on(alloc, star.text.as_str(), None);
+    matches!(&robot, Some(robot) if robot.bodies() == bodies && is_borne(robot, bodies, link, joint, parent))
+}
+
+// Whether the star is refused so, at its last link or its last joint.
+fn is_too_large(alloc: Global, kind: &str, links: u32, fault: TreeKind) -> bool {
+    let Ok(star) = star_of(alloc, kind, links) else {
+        return false;
+    };
+    let at = if fault == TreeKind::TooManyLinks {
+        star.link
+    } else {
+        star.joint
+    };
+    has_fault(alloc, star.text.as_str(), None, fault, at)
 }
 
 #[test]
-fn at_most_256_links(rt: HostRuntime) -> Result<(), Fail> {
+fn at_most_256_links(rt: HostRuntime) {
     let alloc = rt.alloc();
-    let most = star_of(alloc, "fixed", 255)?;
-    assert!(rt; ends_with(alloc, most.text.as_str(), 256, ("l254", "j254", 1)));
-    let more = star_of(alloc, "fixed", 256)?;
-    let kind = TreeKind::TooManyLinks;
-    assert!(rt; has_fault(alloc, more.text.as_str(), None, kind, more.link));
-    Ok(())
+    assert!(rt;
+        ends_with(alloc, "fixed", 255, 256, ("l254", "j254", 1))
+            && is_too_large(alloc, "fixed", 256, TreeKind::TooManyLinks)
+    );
 }
 
 #[test]
-fn at_most_64_columns(rt: HostRuntime) -> Result<(), Fail> {
+fn at_most_64_columns(rt: HostRuntime) {
     let alloc = rt.alloc();
-    let most = star_of(alloc, "prismatic", 64)?;
-    assert!(rt; ends_with(alloc, most.text.as_str(), 65, ("l63", "j63", 1)));
-    let more = star_of(alloc, "prismatic", 65)?;
-    let kind = TreeKind::TooManyColumns;
-    assert!(rt; has_fault(alloc, more.text.as_str(), None, kind, more.joint));
-    Ok(())
+    assert!(rt;
+        ends_with(alloc, "prismatic", 64, 65, ("l63", "j63", 1))
+            && is_too_large(alloc, "prismatic", 65, TreeKind::TooManyColumns)
+    );
 }

@@ -1,37 +1,22 @@
 //! States that a second file names, and refusals of states with places counted by hand.
 ghost use Rattle.rb_tree.specs.State.{Fits};
 
+use crate::building::{RefusedInside, Semantics, are_refused_inside};
 use rb_num::Iv;
 use rb_spatial::Vec3;
-use rb_srdf::read_srdf;
-use rb_tags::{RootKind, read_tags};
-use rb_tree::{NoState, Robot, State, TreeFault, TreeKind, WhichFile};
-use rb_urdf::read_urdf;
+use rb_tree::{NoState, Robot, State, TreeKind};
 use std::alloc::Global;
-use std::test::*;
-
-// The robot of two files that the readers take, or its fault.
-pub(crate) fn robot_of_two(
-    alloc: Global,
-    urdf: &str,
-    srdf: &str,
-    root: Option<RootKind>,
-) -> Option<Result<Robot, TreeFault>> {
-    let urdf_tags = read_tags(alloc, urdf.as_bytes()).ok()?;
-    let urdf = read_urdf(alloc, &urdf_tags).ok()?;
-    let srdf_tags = read_tags(alloc, srdf.as_bytes()).ok()?;
-    let srdf = read_srdf(alloc, &srdf_tags).ok()?;
-    Some(Robot::build(alloc, &urdf, Some(&srdf), root))
-}
 
 // The places are 0 for the joint `turn`, 1 for `slide`, from 2 on for `wheel`, from 4 on for `level` and from 8 on for `float`.
 const KINDS: &str =
     "<robot name='arm'><link name='base'/><link name='a'/><link name='b'/><link name='c'/><link name='d'/><link name='e'/><link name='f'/><link name='g'/><joint name='turn' type='revolute'><parent link='base'/><child link='a'/></joint><joint name='slide' type='prismatic'><parent link='base'/><child link='b'/></joint><joint name='wheel' type='continuous'><parent link='base'/><child link='c'/></joint><joint name='level' type='planar'><parent link='base'/><child link='d'/></joint><joint name='float' type='floating'><parent link='base'/><child link='e'/></joint><joint name='stay' type='fixed'><parent link='base'/><child link='f'/></joint><joint name='follow' type='revolute'><parent link='base'/><child link='g'/><mimic joint='turn'/></joint></robot>";
 
 // What stands in a robot, behind two groups.
-fn semantics(alloc: Global, inside: &str) -> Result<String, Fail> {
-    Ok(format!(in alloc; "<robot name='arm'><group name='g'/><group name='h'/>{inside}</robot>")?)
-}
+const SEMANTICS: Semantics = Semantics {
+    urdf: KINDS,
+    head: "<robot name='arm'><group name='g'/><group name='h'/>",
+    tail: "</robot>",
+};
 
 // Parts of a thousand, exactly.
 fn thousandths(parts: i32) -> Iv {
@@ -77,52 +62,88 @@ fn has_half(robot: &Robot, state: &State, place: usize) -> bool
     )
 }
 
+const HOME: &str =
+    "<group_state name='home' group='g'><joint name='turn' value='0.5'/><joint name='slide' value='-2'/><joint name='wheel' value='0.5'/><joint name='level' value='1 -2 0.5'/><joint name='float' value='1 2 3 0.5 -0.5 0.5 -0.5'/></group_state>";
+
+// Puts the state of a name, if there is one.
+fn is_put(robot: &Robot, state: &mut State, name: &[u8]) -> bool
+    requires { Fits robot.now state.old }
+    ensures { Fits robot.now state.new }
+{
+    matches!(state.set_named(robot, name), Ok(()))
+}
+
+// Whether each joint has the numbers that its kind takes.
+fn is_home(robot: &Robot, state: &State) -> bool
+    requires { Fits robot.now state.now }
+{
+    are_from(robot, state, 0, &[500, -2000])
+        && has_half(robot, state, 2)
+        && are_from(robot, state, 4, &[1000, -2000])
+        && has_half(robot, state, 6)
+        && are_from(robot, state, 8, &[1000, 2000, 3000, 500, -500, 500, -500])
+}
+
+// Whether the state of the robot is the one at home, once that is put.
+fn goes_home(alloc: Global, robot: &Robot) -> bool {
+    let Ok(mut state) = State::new(alloc, robot) else {
+        return false;
+    };
+    is_put(robot, &mut state, b"home") && is_home(robot, &state)
+}
+
 #[test]
-fn each_kind_takes_its_numbers(rt: HostRuntime) -> Result<(), Fail> {
-    let alloc = rt.alloc();
-    let text = semantics(
-        alloc,
-        "<group_state name='home' group='g'><joint name='turn' value='0.5'/><joint name='slide' value='-2'/><joint name='wheel' value='0.5'/><joint name='level' value='1 -2 0.5'/><joint name='float' value='1 2 3 0.5 -0.5 0.5 -0.5'/></group_state>",
-    )?;
-    let built = robot_of_two(alloc, KINDS, text.as_str(), None).ok_or("two files")?;
-    let robot = built.ok().ok_or("a robot")?;
-    let mut state = State::new(alloc, &robot)?;
-    state.set_named(&robot, b"home")?;
-    assert!(rt; are_from(&robot, &state, 0, &[500, -2000]));
-    assert!(rt; has_half(&robot, &state, 2));
-    assert!(rt; are_from(&robot, &state, 4, &[1000, -2000]));
-    assert!(rt; has_half(&robot, &state, 6));
-    assert!(rt; are_from(&robot, &state, 8, &[1000, 2000, 3000, 500, -500, 500, -500]));
-    Ok(())
+fn each_kind_takes_its_numbers(rt: HostRuntime) {
+    let robot = SEMANTICS.robot(rt.alloc(), HOME);
+    assert!(rt; matches!(&robot, Some(robot) if goes_home(rt.alloc(), robot)));
 }
 
 // Two states of one name and a state of another.
 const TWICE: &str =
     "<group_state name='home' group='g'><joint name='turn' value='1'/><joint name='slide' value='2'/></group_state><group_state name='away' group='g'><joint name='slide' value='3'/></group_state><group_state name='home' group='h'><joint name='turn' value='4'/></group_state>";
 
-#[test]
-fn later_states_of_a_name_hold(rt: HostRuntime) -> Result<(), Fail> {
-    let alloc = rt.alloc();
-    let text = semantics(alloc, TWICE)?;
-    let built = robot_of_two(alloc, KINDS, text.as_str(), None).ok_or("two files")?;
-    let robot = built.ok().ok_or("a robot")?;
-    let mut state = State::new(alloc, &robot)?;
-    state.set_named(&robot, b"home")?;
-    assert!(rt; are_from(&robot, &state, 0, &[4000, 2000, 1000, 0]));
-    state.set_named(&robot, b"away")?;
-    assert!(rt; robot.has_state(b"away") && !robot.has_state(b"hom"));
-    assert_eq!(rt; state.set_named(&robot, b"hom"), Err(NoState));
-    assert!(rt; are_from(&robot, &state, 0, &[4000, 3000, 1000, 0]));
+// Whether the later states of a name hold, and a name without a state changes nothing.
+fn puts_states(robot: &Robot, state: &mut State) -> bool
+    requires { Fits robot.now state.old }
+    ensures { Fits robot.now state.new }
+{
+    is_put(robot, state, b"home")
+        && are_from(robot, state, 0, &[4000, 2000, 1000, 0])
+        && is_put(robot, state, b"away")
+        && matches!(state.set_named(robot, b"hom"), Err(NoState))
+        && are_from(robot, state, 0, &[4000, 3000, 1000, 0])
+}
+
+// Whether another state of the robot takes the numbers and the gravity of this one.
+fn is_copied(alloc: Global, robot: &Robot, state: &State) -> bool
+    requires { Fits robot.now state.now }
+{
+    let Ok(mut row) = State::new(alloc, robot) else {
+        return false;
+    };
+    row.set_to(state);
+    are_from(robot, &row, 0, &[4000, 3000, 1000, 0]) && row.gravity().y() == Iv::ONE
+}
+
+fn holds_later_states(alloc: Global, robot: &Robot) -> bool {
+    let Ok(mut state) = State::new(alloc, robot) else {
+        return false;
+    };
     state.set_gravity(Vec3::new(Iv::ZERO, Iv::ONE, Iv::ZERO));
-    let mut row = State::new(alloc, &robot)?;
-    row.set_to(&state);
-    assert!(rt; are_from(&robot, &row, 0, &[4000, 3000, 1000, 0]));
-    assert_eq!(rt; row.gravity().y(), Iv::ONE);
-    Ok(())
+    puts_states(robot, &mut state)
+        && robot.has_state(b"away")
+        && !robot.has_state(b"hom")
+        && is_copied(alloc, robot, &state)
+}
+
+#[test]
+fn later_states_of_a_name_hold(rt: HostRuntime) {
+    let robot = SEMANTICS.robot(rt.alloc(), TWICE);
+    assert!(rt; matches!(&robot, Some(robot) if holds_later_states(rt.alloc(), robot)));
 }
 
 // What stands in a robot behind two groups, and the kind and the place of its fault. The first element is at 52.
-const FAULTS: [(&str, TreeKind, u64); 5] = [
+const FAULTS: [RefusedInside; 5] = [
     (
         "<group_state name='s' group='g'><joint name='a' value='0'/></group_state>",
         TreeKind::UnknownName,
@@ -151,19 +172,6 @@ const FAULTS: [(&str, TreeKind, u64); 5] = [
 ];
 
 #[test]
-fn states_are_refused(rt: HostRuntime) -> Result<(), Fail> {
-    let alloc = rt.alloc();
-    for (inside, kind, at) in FAULTS {
-        let text = semantics(alloc, inside)?;
-        let fault = TreeFault {
-            kind,
-            file: WhichFile::Srdf,
-            at,
-        };
-        assert!(rt;
-            matches!(robot_of_two(alloc, KINDS, text.as_str(), None), Some(Err(found)) if found == fault),
-            "{inside}"
-        );
-    }
-    Ok(())
+fn states_are_refused(rt: HostRuntime) {
+    assert!(rt; are_refused_inside(rt.alloc(), &SEMANTICS, &FAULTS));
 }

@@ -17,29 +17,31 @@ fn chain(alloc: Global) -> Result<Vec<u32>, AllocError> {
 }
 
 // A work of the greatest size for such columns.
-fn made(alloc: Global, up: &[u32]) -> Result<Work, Fail> {
+fn made(alloc: Global, up: &[u32]) -> Option<Work> {
     if up.len() > 64 || !ascends(up) {
-        return Err(Fail::from("columns"));
+        return None;
     }
-    Ok(Work::new(alloc, 256, 64, up, 64)?)
+    Work::new(alloc, 256, 64, up, 64).ok()
 }
 
 // A work of the greatest size for a chain.
-fn made_for_chain(alloc: Global) -> Result<Work, Fail> {
-    let up = chain(alloc)?;
+fn made_for_chain(alloc: Global) -> Option<Work> {
+    let Ok(up) = chain(alloc) else {
+        return None;
+    };
     made(alloc, up.as_slice())
 }
 
-// Columns, and the length of their packed table.
-const PACKED: [(&[u32], usize); 2] = [(&[0; 64], 64), (&[0, 1, 1, 3], 8)];
+// Whether the packed table for these columns has this length.
+fn is_packed(alloc: Global, up: &[u32], length: usize) -> bool {
+    let work = made(alloc, up);
+    matches!(&work, Some(work) if work.packed_len() == length)
+}
 
 #[test]
-fn packed_table_is_as_long_as_all_depths(rt: HostRuntime) -> Result<(), Fail> {
-    for (up, length) in PACKED {
-        let work = made(rt.alloc(), up)?;
-        assert!(rt; work.packed_len() == length);
-    }
-    Ok(())
+fn packed_table_is_as_long_as_all_depths(rt: HostRuntime) {
+    let alloc = rt.alloc();
+    assert!(rt; is_packed(alloc, &[0; 64], 64) && is_packed(alloc, &[0, 1, 1, 3], 8));
 }
 
 fn keeps_entries(work: &mut Work, i: u32) -> bool {
@@ -60,13 +62,17 @@ fn keeps_motions(work: &mut Work, motion: Motion, i: u32) -> bool {
     *work.v(0) == motion && *work.v(i) != motion && *work.a(i) == motion
 }
 
-#[test]
-fn bodies_are_kept(rt: HostRuntime) -> Result<(), Fail> {
-    let mut work = made(rt.alloc(), &[])?;
+fn keeps_bodies(alloc: Global) -> bool {
+    let Some(mut work) = made(alloc, &[]) else {
+        return false;
+    };
     let one = Vec3::new(A, A, A);
-    assert!(rt; keeps_entries(&mut work, 256));
-    assert!(rt; keeps_motions(&mut work, Motion { lin: one, ang: one }, 256));
-    Ok(())
+    keeps_entries(&mut work, 256) && keeps_motions(&mut work, Motion { lin: one, ang: one }, 256)
+}
+
+#[test]
+fn bodies_are_kept(rt: HostRuntime) {
+    assert!(rt; keeps_bodies(rt.alloc()));
 }
 
 fn keeps_torques(work: &mut Work, c: u32) -> bool {
@@ -86,12 +92,16 @@ fn keeps_masses(work: &mut Work) -> bool {
     work.L(64, 1) == A && work.mass(1, 64) == A
 }
 
+fn keeps_columns(alloc: Global) -> bool {
+    let Some(mut work) = made_for_chain(alloc) else {
+        return false;
+    };
+    keeps_torques(&mut work, 64) && keeps_masses(&mut work)
+}
+
 #[test]
-fn columns_are_kept(rt: HostRuntime) -> Result<(), Fail> {
-    let mut work = made_for_chain(rt.alloc())?;
-    assert!(rt; keeps_torques(&mut work, 64));
-    assert!(rt; keeps_masses(&mut work));
-    Ok(())
+fn columns_are_kept(rt: HostRuntime) {
+    assert!(rt; keeps_columns(rt.alloc()));
 }
 
 fn keeps_row_columns(work: &mut Work, r: u32, c: u32) -> bool {
@@ -112,21 +122,27 @@ fn keeps_rows(work: &mut Work, r: u32) -> bool {
     work.G(r, r) == A && work.l(r, r - 1) == Iv::ZERO && work.row_force(r) == A
 }
 
+fn keeps_all_rows(alloc: Global) -> bool {
+    let Some(mut work) = made_for_chain(alloc) else {
+        return false;
+    };
+    keeps_row_columns(&mut work, 64, 64) && keeps_rows(&mut work, 64)
+}
+
 #[test]
-fn rows_are_kept(rt: HostRuntime) -> Result<(), Fail> {
-    let mut work = made_for_chain(rt.alloc())?;
-    assert!(rt; keeps_row_columns(&mut work, 64, 64));
-    assert!(rt; keeps_rows(&mut work, 64));
-    Ok(())
+fn rows_are_kept(rt: HostRuntime) {
+    assert!(rt; keeps_all_rows(rt.alloc()));
 }
 
 #[test]
 fn refusals_bear_their_names(rt: HostRuntime) {
     let name = Name::one(NameKind::D, 1);
-    let size = named::<Iv>(Err(NumFault::Size), name);
-    assert!(rt; size == Err(RowFault::Size { name }));
-    assert!(rt; named(Ok(A), name) == Ok(A));
-    let zero = pivot(Iv::ZERO, name);
-    assert!(rt; zero == Err(RowFault::Pivot { name, iv: Iv::ZERO }));
-    assert!(rt; pivot(A, name) == Ok(A));
+    let size = RowFault::Size { name };
+    let zero = RowFault::Pivot { name, iv: Iv::ZERO };
+    assert!(rt;
+        named::<Iv>(Err(NumFault::Size), name) == Err(size)
+            && named(Ok(A), name) == Ok(A)
+            && pivot(Iv::ZERO, name) == Err(zero)
+            && pivot(A, name) == Ok(A)
+    );
 }
