@@ -1,14 +1,19 @@
-//! A robot with a row and a work, and the texts of small robots.
-ghost use Rattle.std.specs.Prelude.{IfOk};
+//! A robot with a row and a work, without constraints and with them, and the texts of small robots.
+ghost use Rattle.std.specs.Prelude.{◌≡◌, IfOk};
+ghost use Rattle.rb_flat.specs.Contact.{RowsFit};
 ghost use Rattle.rb_tree.specs.Places.{IsFor};
+ghost use Rattle.rb_tree.specs.Shape.{shape_of};
 ghost use Rattle.rb_tree.specs.State.{Fits};
+ghost use Rattle.rb_constraint.specs.Constraints.{constraints_of};
 
+use rb_constraint::{Constraints, read_constraints};
 use rb_num::{B, Iv};
 use rb_tags::{RootKind, read_tags};
 use rb_tree::{Robot, State};
 use rb_urdf::read_urdf;
-use rb_work::Work;
+use rb_work::{Name, NameKind, RowFault, Work};
 use std::alloc::{AllocError, Global};
+use std::test::Fail;
 
 // A number of a row that is not neutral, by place from 0: an entry from one end to the other, a speed, an acceleration or a torque, in units of
 // 10^-12.
@@ -89,6 +94,75 @@ pub(crate) fn bench_of(alloc: Global, robot: Robot, row: &[Given]) -> Result<Ben
     let work = work_for(alloc, &robot)?;
     Ok(Bench { robot, state, work })
 }
+
+// A robot with its root, the lines of its constraints, and a row.
+#[derive(Drop)]
+pub(crate) struct Held<'a> {
+    pub(crate) text: &'a str,
+    pub(crate) root: Option<RootKind>,
+    pub(crate) lines: &'a [u8],
+    pub(crate) row: &'a [Given],
+}
+
+// A robot under constraints, with a row and a work.
+#[derive(Drop)]
+pub(crate) struct Stand {
+    pub(crate) robot: Robot,
+    pub(crate) cons: Constraints,
+    pub(crate) state: State,
+    pub(crate) work: Work,
+}
+
+fn work_under(alloc: Global, robot: &Robot, cons: &Constraints) -> Result<Work, AllocError>
+    ensures room { IfOk result (IsFor robot.now) }
+    ensures rows { IfOk result (λ work. work.rows ≡ (constraints_of cons.now).rows) }
+{
+    Work::new(
+        alloc,
+        robot.bodies(),
+        robot.full(),
+        robot.ups(),
+        cons.rows(),
+    )
+}
+
+// The robot under its constraints, with the row and a work.
+pub(crate) fn stand_of(alloc: Global, held: &Held) -> Result<Stand, Fail>
+    ensures fits { IfOk result (λ stand. Fits stand.robot stand.state) }
+    ensures room { IfOk result (λ stand. IsFor stand.robot stand.work) }
+    ensures rows { IfOk result (λ stand. stand.work.rows ≡ (constraints_of stand.cons).rows) }
+    ensures fit { IfOk result (λ stand. RowsFit (shape_of stand.robot) (constraints_of stand.cons)) }
+{
+    let robot = robot_of(alloc, held.text, held.root).ok_or("the robot is built")?;
+    let cons = read_constraints(alloc, held.lines, &robot)
+        .ok()
+        .ok_or("the constraints are read")?;
+    let mut state = State::new(alloc, &robot)?;
+    put_all(&robot, &mut state, held.row);
+    let work = work_under(alloc, &robot, &cons)?;
+    Ok(Stand {
+        robot,
+        cons,
+        state,
+        work,
+    })
+}
+
+// A pivot that is zero.
+pub(crate) fn zero_pivot(kind: NameKind, at: u32) -> RowFault {
+    RowFault::Pivot {
+        name: Name::one(kind, at),
+        iv: Iv::ZERO,
+    }
+}
+
+// A box of 1 kg and 1 kg m^2.
+pub(crate) const BOX: &str =
+    "<robot name='box'><link name='box'><inertial><mass value='1'/><inertia ixx='1' iyy='1' izz='1'/></inertial></link></robot>";
+
+// A crank bears a coupler, which is held to the tip of a rocker.
+pub(crate) const LOOP: &str =
+    "<robot name='loop'><link name='base'/><link name='crank'><inertial><inertia iyy='1'/></inertial></link><link name='coupler'><inertial><mass value='1'/><inertia iyy='1'/></inertial></link><link name='rocker'><inertial><inertia iyy='1'/></inertial></link><joint name='crank' type='revolute'><parent link='base'/><child link='crank'/><axis xyz='0 1 0'/></joint><joint name='coupler' type='revolute'><parent link='crank'/><child link='coupler'/><axis xyz='0 1 0'/><origin xyz='0 0 1'/></joint><joint name='rocker' type='revolute'><parent link='base'/><child link='rocker'/><axis xyz='0 1 0'/><origin xyz='1 0 0'/></joint></robot>";
 
 // A car of 2 kg on a vertical slide.
 pub(crate) const LIFT: &str =

@@ -1,4 +1,4 @@
-//! Tests of inverse and forward dynamics, the mass table and its factors, from outside.
+//! Tests of inverse and forward dynamics, of impacts, of the mass table and of its factors, from outside.
 #![tactic(auto)]
 
 #[cfg(test)]
@@ -11,6 +11,8 @@ mod constrained;
 mod factors;
 #[cfg(test)]
 mod forward;
+#[cfg(test)]
+mod impacts;
 #[cfg(test)]
 mod inverse;
 #[cfg(test)]
