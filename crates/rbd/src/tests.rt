@@ -426,6 +426,83 @@ fn constraints_hold_robots(rt: HostRuntime) -> Result<(), Fail> {
     Ok(())
 }
 
+// A robot, words behind the task, constraints, a table, the status, and what is put.
+const STRUCK: [(&[u8], &[&str], &[u8], &[u8], Status, &[u8]); 6] = [
+    // 2 m/s downwards come back with 0 to 2 m/s: 1 kg gains 2 to 4 N s
+    (
+        b"<robot name='lift'><link name='base'/><link name='car'><inertial><mass value='1'/></inertial></link><joint name='lift' type='prismatic'><parent link='base'/><child link='car'/><axis xyz='0 0 1'/></joint></robot>",
+        &[],
+        b"name,axes,link1,x1,y1,z1,link2,x2,y2,z2,mu,e\nfloor,z,car,,,,,,,,0,0..1\n",
+        b"v.lift\n-2\n",
+        Status::Done,
+        b"row,answer,cause,v.lift,imp.floor.z\n1,ok,,0.000000000000..2.000000000000,2.000000000000..4.000000000000\n",
+    ),
+    // half of 2 m/s comes back: 2 * (2 + 1) N s; a car at rest stays so
+    (
+        LIFT,
+        &[],
+        b"name,axes,link1,x1,y1,z1,link2,x2,y2,z2,mu,e\nfloor,z,car,,,,,,,,0,0.5\n",
+        b"v.lift\n-2\n0\n",
+        Status::Done,
+        b"row,answer,cause,v.lift,imp.floor.z\n1,ok,,1.000000000000..1.000000000000,6.000000000000..6.000000000000\n2,ok,,0.000000000000..0.000000000000,0.000000000000..0.000000000000\n",
+    ),
+    // the second slides twice as fast as the first, so 2 m/s of the first have 1 * 2 + 2 * 4 kg m/s, twice the impulse
+    (
+        PAIR,
+        &[],
+        b"name,axes,link1,x1,y1,z1,link2,x2,y2,z2,mu,e\nwall,x,l2,,,,,,,,,\n",
+        b"v.one\n2\n",
+        Status::Done,
+        b"row,answer,cause,v.one,imp.wall.x\n1,ok,,0.000000000000..0.000000000000,-5.000000000000..-5.000000000000\n",
+    ),
+    // the loop turns as one, and its rocker meets a stop: 3 kg m² turn back from 2 rad/s to -1, of which 2 on the side of the crank
+    (
+        BARS,
+        &[],
+        b"name,axes,link1,x1,y1,z1,link2,x2,y2,z2,mu,e\nstop,x,rocker,0,0,1,,,,,0,0.5\nloop,xz,coupler,1,0,0,rocker,0,0,1,0,0\n",
+        b"v.crank,v.coupler,v.rocker\n2,-2,2\n",
+        Status::Done,
+        b"row,answer,cause,v.crank,v.coupler,v.rocker,imp.stop.x,imp.loop.x,imp.loop.z\n1,ok,,-1.000000000000..-1.000000000000,1.000000000000..1.000000000000,-1.000000000000..-1.000000000000,-9.000000000000..-9.000000000000,-6.000000000000..-6.000000000000,0.000000000000..0.000000000000\n",
+    ),
+    // two rows hold the same, whatever their compliance
+    (
+        BOX,
+        &["--root", "floating"],
+        b"name,axes,link1,x1,y1,z1,link2,x2,y2,z2,mu,e\none,z,box,,,,,,,,1,\ntwo,z,box,,,,,,,,1,\n",
+        b"v.root_joint.vz\n-2\n",
+        Status::Refused,
+        b"row,answer,cause,v.root_joint.vx,v.root_joint.vy,v.root_joint.vz,v.root_joint.wx,v.root_joint.wy,v.root_joint.wz,imp.one.z,imp.two.z\n1,pivot,C[2]=0.000000000000..0.000000000000,,,,,,,,\n",
+    ),
+    // nothing is met, but a mass table without factors is refused all the same
+    (
+        LEAF,
+        &[],
+        b"name,axes,link1,x1,y1,z1,link2,x2,y2,z2,mu,e\n",
+        b"v.hinge\n1\n",
+        Status::Refused,
+        b"row,answer,cause,v.hinge\n1,pivot,D[1]=0.000000000000..0.000000000000,\n",
+    ),
+];
+
+#[test]
+fn impacts_turn_robots_round(rt: HostRuntime) -> Result<(), Fail> {
+    for (robot, words, constraints, rows, status, out) in STRUCK.iter() {
+        let held = Held {
+            robot,
+            poses: b"",
+            rows,
+        };
+        let mut all = Vec::from_slice(rt.alloc(), words)?;
+        all.extend_from_slice(&["--task", "impulse", "--urdf", "robot.urdf"])?;
+        all.extend_from_slice(&["--constraints", "grips.csv"])?;
+        let ran = run_under(rt.alloc(), all.as_slice(), held, constraints, &[], &[])?;
+        assert_eq!(rt; ran.out.bytes(), *out);
+        assert_eq!(rt; ran.status, *status);
+        assert_eq!(rt; ran.err.bytes(), b"".as_slice());
+    }
+    Ok(())
+}
+
 // Articulated bodies are asked only of a robot in which no joint follows another.
 #[test]
 fn followers_are_refused(rt: HostRuntime) -> Result<(), Fail> {
@@ -460,7 +537,7 @@ fn runs_put_what_they_are_asked_for(rt: HostRuntime) -> Result<(), Fail> {
 // Words, the poses, the status and the line on standard error. The robot is the arm, and nothing is put.
 const REFUSED: [(&[&str], &[u8], Status, &[u8]); 9] = [
     (
-        &["--task", "impulse", "--urdf", "robot.urdf"],
+        &["--task", "walk", "--urdf", "robot.urdf"],
         b"",
         Status::Usage,
         b"rbd: usage: task\n",
@@ -648,7 +725,7 @@ fn constraints_are_refused(rt: HostRuntime) -> Result<(), Fail> {
     Ok(())
 }
 
-// Each task but `contact` takes a file of constraints, here between two links and with the world, and puts what it puts without one.
+// Each task but `contact` and `impulse` takes a file of constraints, here between two links and with the world, and puts what it puts without one.
 #[test]
 fn tasks_pass_over_constraints(rt: HostRuntime) -> Result<(), Fail> {
     let held = Held {
