@@ -89,7 +89,7 @@ const FAULTS: [(&[&str], WordsFault); 8] = [
         &["--task", "rnea", "--urdf", "a", "--urdf", "a"],
         WordsFault::Words,
     ),
-    (&["--task", "impulse", "--urdf", "a"], WordsFault::Task),
+    (&["--task", "impulses", "--urdf", "a"], WordsFault::Task),
     (
         &[
             "--task",
