@@ -126,6 +126,16 @@ fn work_under(alloc: Global, robot: &Robot, cons: &Constraints) -> Result<Work, 
     )
 }
 
+// The constraints of these lines.
+fn constraints_in(alloc: Global, lines: &[u8], robot: &Robot) -> Result<Constraints, Fail>
+    ensures { IfOk result (λ cons. RowsFit (shape_of robot.now) (constraints_of cons)) }
+{
+    match read_constraints(alloc, lines, robot) {
+        Ok(cons) => Ok(cons),
+        Err(_) => Err(Fail::from("the constraints are read")),
+    }
+}
+
 // The robot under its constraints, with the row and a work.
 pub(crate) fn stand_of(alloc: Global, held: &Held) -> Result<Stand, Fail>
     ensures fits { IfOk result (λ stand. Fits stand.robot stand.state) }
@@ -134,9 +144,7 @@ pub(crate) fn stand_of(alloc: Global, held: &Held) -> Result<Stand, Fail>
     ensures fit { IfOk result (λ stand. RowsFit (shape_of stand.robot) (constraints_of stand.cons)) }
 {
     let robot = robot_of(alloc, held.text, held.root).ok_or("the robot is built")?;
-    let cons = read_constraints(alloc, held.lines, &robot)
-        .ok()
-        .ok_or("the constraints are read")?;
+    let cons = constraints_in(alloc, held.lines, &robot)?;
     let mut state = State::new(alloc, &robot)?;
     put_all(&robot, &mut state, held.row);
     let work = work_under(alloc, &robot, &cons)?;
