@@ -17,7 +17,7 @@ use Rattle.rb_work.specs.Place.{names}
 use Rattle.rb_work.specs.View.{View, Extent, IsExtent, IsSized, extent_of, blank_of, columns_of}
 use Rattle.rb_work.proofs.PlaceLaws.{IsCall, ordered}
 use Rattle.rb_work.proofs.Sizes.{sizes_of, room_for, blank_for}
-use Rattle.rb_tree.specs.Columns.{column_count, up_of, AreUps}
+use Rattle.rb_tree.specs.Columns.{column_count, up_of}
 use Rattle.rb_tree.specs.Robot.{Tree, AreBodies}
 use Rattle.rb_tree.specs.Shape.{shape_of}
 use Rattle.rb_tree.specs.State.{Row}
@@ -31,7 +31,6 @@ use Rattle.rb_mass.proofs.MassPass as Mass
 use Rattle.rb_mass.proofs.Told.{room_of, mass_found, mass_refused}
 use Rattle.rb_mass.proofs.RowTold.{places_still}
 use Rattle.rb_factor.specs.Factor.{HoldsFactors}
-use Rattle.rb_factor.specs.Solve.{HoldsDivided, HoldsSubstituted}
 use Rattle.rb_factor.specs.Sweeps.{factor_of, divide_of, substitute_of}
 use Rattle.rb_factor.proofs.Answered as Factors
 use Rattle.rb_constraint.specs.Rows.{AreRows}
@@ -346,7 +345,7 @@ module _ (tree : Tree) (row : Row) (k : Constraints Interval) (kept : AreBodies 
         let a = then-ok (added_of (columns_of o) k.rows o.Y o.lam o.w) (λ right. from_pushes o right) x (sym (changes o) ∙ e) in
         let b = then-ok (divide_of o.up o.packed a.0 o.z) (λ t. from_quotients o a.0 t) x a.2 in
         let c = done (substitute_of o.up o.packed b.0 o.x) (λ t. record o { w = a.0; z = b.0; x = t }) x b.2 in
-        subst (λ (v : View). Changed v) c.2
+        subst (λ (v : View). Changed v) {x = record o { w = a.0; z = b.0; x = c.0 }} c.2
         (last (record o { w = a.0; z = b.0 }) c.0 (quotients (record o { w = a.0 }) b.0 (added a.0 a.1) b.1) c.1)
 
     changed_not_done : (e : RowFault) → changed_of k o ≡ Err e → IsImpactRefused tree row k e
@@ -467,7 +466,7 @@ module _ (tree : Tree) (row : Row) (k : Constraints Interval) (kept : AreBodies 
   all : List Interval × List Interval → Result (List Interval × List Interval) RowFault
   all numbers = Ok numbers
 
-  pub impact_is : (w : View) → AreImpact tree row k w → impact_of tree row k ≡ Ok (speeds_in tree w, impulses_in k w)
+  impact_is : (w : View) → AreImpact tree row k w → impact_of tree row k ≡ Ok (speeds_in tree w, impulses_in k w)
   unfolding all
   impact_is w h = go (impact_of tree row k) refl
     where

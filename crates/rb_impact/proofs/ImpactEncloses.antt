@@ -1,5 +1,5 @@
 -- The one solution of an impact of each choice lies in the values of a row.
-use Rattle.std.proofs.Common.{◌≡◌, ◌≤◌, ℕ, suc, ◌-◌, [], ◌∷◌, Ok, refl, sym, ap, ◌∙◌, subst, arith}
+use Rattle.std.proofs.Common.{◌≡◌, ◌≤◌, ℕ, suc, [], ◌∷◌, Ok, refl, sym, ap, ◌∙◌, subst, arith}
 use Rattle.rb_frac.specs.Ops.{sum}
 use Rattle.rb_frac.specs.Frac.{Frac, Same, fracs, add, mul}
 use Rattle.rb_frac.specs.Pairs.{dot}
@@ -33,9 +33,8 @@ use Rattle.rb_bordered.specs.Equations.{IsOneBorderedSolution}
 use Rattle.rb_jacobian.specs.Jacobian.{IsJacobian}
 use Rattle.rb_jacobian.proofs.Turns.{has_turns}
 use Rattle.rb_jacobian.proofs.Impact.{impact_has_one_solution}
-use Rattle.rb_work.specs.declared.names.RowFault.{RowFault}
 use Rattle.rb_work.specs.Path.{above, Ascends}
-use Rattle.rb_work.specs.View.{View, columns_of, M_at, L_at, D_at, J_at, Y_at, Z_at, C_at, l_at, e_at, lam_at, w_at, z_at, x_at, y_at}
+use Rattle.rb_work.specs.View.{View, columns_of, L_at, D_at, J_at, Y_at, Z_at, C_at, l_at, e_at, lam_at, w_at, z_at, x_at, y_at}
 use Rattle.rb_tree.specs.Columns.{column_count}
 use Rattle.rb_tree.specs.Robot.{Tree, HasColumn, AreBodies}
 use Rattle.rb_tree.specs.Shape.{shape_of, brackets_of}
@@ -45,7 +44,7 @@ use Rattle.rb_tree.proofs.ColumnsFit.{columns_fit, parents_first}
 use Rattle.rb_tree.proofs.PlaceEncloses.{places_enclose}
 use Rattle.rb_mass.specs.Encloses.{MassLies}
 use Rattle.rb_mass.proofs.MassEnclose.{row_mass_encloses}
-use Rattle.rb_factor.specs.Laws.{NumbersLie, AreWithin, TableLies}
+use Rattle.rb_factor.specs.Laws.{NumbersLie, AreWithin}
 use Rattle.rb_factor.proofs.Paths.{regular}
 use Rattle.rb_constraint.specs.Constraints.{IsConstraintChoice}
 use Rattle.rb_constraint.specs.Encloses.{RowsLie}

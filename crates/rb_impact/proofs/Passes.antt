@@ -1,5 +1,5 @@
 -- What the sweeps of an impact leave, and where they are refused.
-use Rattle.std.proofs.Common.{◌≡◌, ◌≢◌, ℕ, ◌+◌, ◌<◌, ◌≤◌, [], length, slice_set, Result, Ok, Err, refl, sym, ap, ◌∙◌, arith}
+use Rattle.std.proofs.Common.{◌≡◌, ℕ, ◌+◌, ◌<◌, [], length, slice_set, Result, Ok, Err, refl, sym, ap}
 use Rattle.std.proofs.lemmas.List.{get_or-set_same, get_or-set_other, length-set}
 use Rattle.rb_num.specs.Interval.{Interval, zero_interval}
 use Rattle.rb_result.specs.Steps.{◌>>=◌}

@@ -1,5 +1,5 @@
 -- What the impulses put on the columns, where nothing was put on them: to add to zero changes nothing, and is not refused.
-use Rattle.std.proofs.Common.{◌≡◌, ℕ, ◌+◌, ◌≤◌, List, length, Ok, Err, sym, ap, ◌∙◌, subst, arith}
+use Rattle.std.proofs.Common.{◌≡◌, ℕ, ◌≤◌, List, length, Ok, Err, sym, ap, ◌∙◌, subst, arith}
 use Rattle.rb_num.specs.Interval.{Interval, zero_interval}
 use Rattle.rb_num.specs.declared.interval.NumFault.{NumFault}
 use Rattle.rb_num.specs.declared.interval.NumFault.TheVariants as N
@@ -15,7 +15,7 @@ use Rattle.rb_work.specs.View.{View, columns_of, Y_at, lam_at, w_at}
 use Rattle.rb_tree.specs.Columns.{column_count}
 use Rattle.rb_tree.specs.Robot.{Tree, HasColumn}
 use Rattle.rb_coupling.specs.Steps.{pairs_of}
-use Rattle.rb_coupling.specs.Forces.{IsTotal, IsTotalRefused, in_sum, in_total, HoldsAddedForces, RefusesAddedForces}
+use Rattle.rb_coupling.specs.Forces.{IsTotalRefused, in_sum, in_total, HoldsAddedForces, RefusesAddedForces}
 use Rattle.rb_coupling.proofs.Rigid.{pairs_long, whole}
 use Rattle.rb_impact.specs.Pushes.{w_rule, IsUnpushed, ArePushes, IsPushRefused}
 

@@ -1,5 +1,5 @@
 -- What stays as it is where other tables of a work change.
-use Rattle.std.proofs.Common.{ℕ, List}
+use Rattle.std.proofs.Common.{List}
 use Rattle.rb_num.specs.Interval.{Interval}
 use Rattle.rb_flat.specs.Contact.{Constraints}
 use Rattle.rb_work.specs.View.{View}
@@ -14,10 +14,9 @@ use Rattle.rb_mass.specs.Table as Table
 use Rattle.rb_mass.specs.Table.{M_rule}
 use Rattle.rb_mass.specs.Mass.{AreMass}
 use Rattle.rb_constraint.specs.Rows.{O_rule, turn_by, K_rule, forces_by, force_by, J_rule, ways_by, way_from, at_body, leave, AreRows}
-use Rattle.rb_coupling.specs.Couple.{HoldsCoupling}
 use Rattle.rb_impact.specs.Sides.{e_rule, AreSides}
 use Rattle.rb_impact.specs.Pushes.{w_rule, ArePushes}
-use Rattle.rb_impact.specs.Impact.{rigid, AreFactored, AreMet, AreStruck, AreChanged}
+use Rattle.rb_impact.specs.Impact.{AreFactored, AreMet, AreStruck, AreChanged}
 
 pub places_stay : (tree : Tree) (row : Row) (u : View) (packed : List Interval) → ArePlaces tree row u → ArePlaces tree row (record u { packed = packed })
 unfolding X_rule
@@ -81,7 +80,7 @@ met_stays tree row k u w h = record {
 abbrev pushed : View → View → View
 pushed u w = record u { w = w.w; z = w.z; x = w.x; y = w.y }
 
-pub sides_stay : (row : Row) (k : Constraints Interval) (u w : View) → AreSides row k u → AreSides row k (pushed u w)
+sides_stay : (row : Row) (k : Constraints Interval) (u w : View) → AreSides row k u → AreSides row k (pushed u w)
 unfolding e_rule
 sides_stay row k u w h = record { each_e = h.each_e }
 

@@ -14,13 +14,13 @@ use Rattle.rb_tree.specs.Places.{IsFor, ArePlaces}
 use Rattle.rb_mass.specs.Mass.{AreMass}
 use Rattle.rb_bordered.specs.Steps.{IsRow}
 use Rattle.rb_factor.specs.Factor.{HoldsDivisors, HoldsFactors}
-use Rattle.rb_factor.specs.Solve.{HoldsDivided, HoldsSubstituted, RefusesDivide, RefusesSubstitute}
+use Rattle.rb_factor.specs.Solve.{HoldsDivided, HoldsSubstituted, RefusesSubstitute}
 use Rattle.rb_constraint.specs.Rows.{AreRows}
 use Rattle.rb_coupling.specs.Steps.{of_row}
 use Rattle.rb_coupling.specs.Couple.{HoldsCoupling, HoldsRowDivisors, IsCoupleRefused, RefusesCouple}
-use Rattle.rb_coupling.specs.Forces.{HoldsRowForces, RefusesRowForces}
+use Rattle.rb_coupling.specs.Forces.{HoldsRowForces}
 use Rattle.rb_contact.proofs.Constrained.{couple_refused_from, coupling_from}
-use Rattle.rb_impact.specs.Sides.{e_rule, AreSides, IsSideRefused}
+use Rattle.rb_impact.specs.Sides.{e_rule, AreSides}
 use Rattle.rb_impact.specs.Pushes.{ArePushes}
 use Rattle.rb_impact.specs.Speeds.{AreSpeeds}
 use Rattle.rb_impact.specs.Impact.{rigid, AreFactored, AreMet, AreStruck, AreChanged, AreImpact, IsImpactRefused}

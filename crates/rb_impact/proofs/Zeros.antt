@@ -1,17 +1,16 @@
 -- A solution whose right side is zero: each step stays at zero, and none is refused.
-use Rattle.std.proofs.Common.{◌≡◌, ℕ, zero, suc, ◌*◌, ◌≤◌, ℤ, pos, negsuc, neg_ℤ, ◌+ℤ◌, ◌*ℤ◌, [], ◌∷◌, Bool, true, false, ◌&&◌, cond, Ok, Err, refl, sym, ap, ◌∙◌, arith}
+use Rattle.std.proofs.Common.{◌≡◌, ℕ, zero, suc, ◌*◌, ◌≤◌, ℤ, pos, negsuc, neg_ℤ, ◌*ℤ◌, [], ◌∷◌, Bool, true, false, ◌&&◌, cond, Ok, Err, refl, sym, ap, ◌∙◌, arith}
 use mathlib.Core.Path.{ap₂}
 use native.Mathlib.Nat.{zero-div}
 use Rattle.std.specs.Bool.{Decides}
-use Rattle.std.specs.Int.{int_min, int_max}
 use Rattle.std.proofs.lemmas.Int.{ints, clamps}
 use Rattle.std.proofs.lemmas.List.{append-nil}
 use Rattle.std.proofs.Math.Nat.{mul-le-mul_left}
 use Rattle.rb_num.specs.declared.interval.NumFault.TheVariants.{Size, Zero}
-use Rattle.rb_num.specs.Interval.{Interval, IsWithin, grid, interval, zero_interval, one_interval, negative_of, sum_of}
+use Rattle.rb_num.specs.Interval.{Interval, IsWithin, grid, interval, zero_interval, one_interval, negative_of}
 use Rattle.rb_num.specs.Dot.{floor_of, is_within, iv_dot}
 use Rattle.rb_num.specs.Quotient.{HasZero, floor_quotient, ceil_quotient, quotients_of, quotient_of}
-use Rattle.rb_num.specs.Refusing.{has_zero, quotient_fits, iv_add, iv_div}
+use Rattle.rb_num.specs.Refusing.{has_zero, iv_add, iv_div}
 use Rattle.rb_num.proofs.Quotients.{grid_positive}
 use Rattle.rb_num.proofs.Refused.{decides_within, added, divided}
 use Rattle.rb_num.proofs.Zeros.{dot-head_zero_first, dot-head_zero_second, dot-zero_second, dot-none}
@@ -83,11 +82,13 @@ zero_added v d q e =
     let scaled = scaled_within v d q e in
     let low = unscaled v.lo scaled.0 in
     let high = unscaled v.hi scaled.1 in
-    sym (added (Ok v) zero_interval v
-    (record {
-      low = record { above = omega (arith, ints, low.above); below = omega (arith, ints, low.below) };
-      high = record { above = omega (arith, ints, high.above); below = omega (arith, ints, high.below) };
-    }, ap₂ interval (omega (arith, ints)) (omega (arith, ints))) tt)
+    sym (added (Ok v) zero_interval v (
+      record {
+        low = record { above = omega (arith, ints, low.above); below = omega (arith, ints, low.below) };
+        high = record { above = omega (arith, ints, high.above); below = omega (arith, ints, high.below) };
+      },
+      ap₂ interval (omega (arith, ints)) (omega (arith, ints)),
+    ) tt)
 
 -- ---- of equations
 pub zero_reduced : (n : ℕ) (up : ℕ → ℕ) (L : ℕ → ℕ → Interval) → IsReduced interval_steps n up L (λ c. zero_interval) (λ k c. zero_interval) (λ c. zero_interval)

@@ -3,7 +3,6 @@ use Rattle.std.specs.Prelude.{◌≡◌, ℕ, ◌+◌, ◌<◌, ◌≤◌, slice
 use Rattle.rb_num.specs.Interval.{Interval, zero_interval}
 use Rattle.rb_num.specs.Dot.{iv_dot}
 use Rattle.rb_num.specs.declared.interval.NumFault.{NumFault}
-use Rattle.rb_num.specs.declared.interval.NumFault.TheVariants as N
 use Rattle.rb_sweep.specs.Sweep.{sweep, upward}
 use Rattle.rb_work.specs.declared.names.NameKind.TheVariants as K
 use Rattle.rb_work.specs.declared.names.RowFault.{RowFault}
