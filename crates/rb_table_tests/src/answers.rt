@@ -14,7 +14,6 @@ use rb_text::Out;
 use rb_tree::{Robot, State};
 use rb_work::Work;
 use std::alloc::{AllocError, Global};
-use std::test::*;
 
 const ONE: i128 = 1_000_000_000_000;
 
@@ -34,7 +33,9 @@ const LEAF: &str =
 fn job_of(alloc: Global, text: &str, task: Task, echo: bool) -> Option<Job>
     ensures { IfSome result IsJob }
 {
-    let robot = robot_on(alloc, text, None)?;
+    let Some(robot) = robot_on(alloc, text, None) else {
+        return None;
+    };
     if robot.has_mimic() {
         return None;
     }
@@ -99,22 +100,28 @@ fn lifted(alloc: Global, job: &Job, row: u64, up: Iv) -> Result<Out, AllocError>
     line_of(alloc, job, &slot)
 }
 
+// Whether the row of this number of a job in which the first column has this acceleration has this line.
+fn is_lifted(alloc: Global, job: &Job, row: u64, up: Iv, line: &[u8]) -> bool
+    requires { IsJob job.now }
+{
+    let lifted = lifted(alloc, job, row, up);
+    matches!(&lifted, Ok(out) if out.bytes() == line)
+}
+
+// The same of inverse dynamics of the lift at 1.5 m/s².
+fn is_raised(alloc: Global, echo: bool, row: u64, line: &[u8]) -> bool {
+    let Some(job) = job_of(alloc, LIFT, Task::Rnea, echo) else {
+        return false;
+    };
+    let up = Iv::new(1_500_000_000_000, 1_500_000_000_000);
+    is_lifted(alloc, &job, row, up, line)
+}
+
 // 2 (9.81 + 1.5)
 #[test]
-fn a_lift_is_answered(rt: HostRuntime) -> Result<(), Fail> {
-    let alloc = rt.alloc();
-    let job = job_of(alloc, LIFT, Task::Rnea, false).ok_or("the robot is built")?;
-    let line = lifted(
-        alloc,
-        &job,
-        1,
-        Iv::new(1_500_000_000_000, 1_500_000_000_000),
-    )?;
-    assert_eq!(rt;
-        line.bytes(),
-        b"1,ok,,22.620000000000..22.620000000000\n".as_slice()
-    );
-    Ok(())
+fn a_lift_is_answered(rt: HostRuntime) {
+    let line = b"1,ok,,22.620000000000..22.620000000000\n";
+    assert!(rt; is_raised(rt.alloc(), false, 1, line));
 }
 
 fn drive(robot: &Robot, state: &mut State, k: usize, acceleration: Iv, torque: Iv)
@@ -147,85 +154,93 @@ fn driven(alloc: Global, job: &Job) -> Result<Out, AllocError>
     line_of(alloc, job, &slot)
 }
 
-// Whether this is the line of row 1 of the stack for a task.
-fn is_driven(alloc: Global, task: Task, line: &[u8]) -> Result<bool, Fail> {
-    let job = job_of(alloc, STACK, task, false).ok_or("the robot is built")?;
-    let out = driven(alloc, &job)?;
-    Ok(out.bytes() == line)
+// Whether this is the line of row 1 of a robot for a task.
+fn is_driven(alloc: Global, text: &str, task: Task, line: &[u8]) -> bool {
+    let Some(job) = job_of(alloc, text, task, false) else {
+        return false;
+    };
+    let driven = driven(alloc, &job);
+    matches!(&driven, Ok(out) if out.bytes() == line)
 }
 
 // The first joint moves both bodies, so the mass table is 2 1, 1 1; 2 * 2 - 1 = 3, and 2 - 1 = 1. Nothing is held, so nothing is struck.
 #[test]
-fn each_task_has_its_values(rt: HostRuntime) -> Result<(), Fail> {
+fn each_task_has_its_values(rt: HostRuntime) {
     let alloc = rt.alloc();
     let torques = b"1,ok,,3.000000000000..3.000000000000,1.000000000000..1.000000000000\n";
-    assert!(rt; is_driven(alloc, Task::Rnea, torques)?);
     let masses =
         b"1,ok,,2.000000000000..2.000000000000,1.000000000000..1.000000000000,1.000000000000..1.000000000000\n";
-    assert!(rt; is_driven(alloc, Task::Crba, masses)?);
     let accelerations = b"1,ok,,2.000000000000..2.000000000000,-1.000000000000..-1.000000000000\n";
-    assert!(rt; is_driven(alloc, Task::Fd, accelerations)?);
-    assert!(rt; is_driven(alloc, Task::Aba, accelerations)?);
-    assert!(rt; is_driven(alloc, Task::Contact, accelerations)?);
     let rest = b"1,ok,,0.000000000000..0.000000000000,0.000000000000..0.000000000000\n";
-    assert!(rt; is_driven(alloc, Task::Impulse, rest)?);
-    Ok(())
+    assert!(rt;
+        is_driven(alloc, STACK, Task::Rnea, torques)
+            && is_driven(alloc, STACK, Task::Crba, masses)
+            && is_driven(alloc, STACK, Task::Fd, accelerations)
+            && is_driven(alloc, STACK, Task::Aba, accelerations)
+            && is_driven(alloc, STACK, Task::Contact, accelerations)
+            && is_driven(alloc, STACK, Task::Impulse, rest)
+    );
 }
 
 // Nothing tells how a joint moves that nothing hangs on.
 #[test]
-fn pivots_are_refused(rt: HostRuntime) -> Result<(), Fail> {
-    let alloc = rt.alloc();
-    let job = job_of(alloc, LEAF, Task::Fd, false).ok_or("the robot is built")?;
-    assert_eq!(rt;
-        driven(alloc, &job)?.bytes(),
-        b"1,pivot,D[1]=0.000000000000..0.000000000000,\n".as_slice()
-    );
-    Ok(())
+fn pivots_are_refused(rt: HostRuntime) {
+    let line = b"1,pivot,D[1]=0.000000000000..0.000000000000,\n";
+    assert!(rt; is_driven(rt.alloc(), LEAF, Task::Fd, line));
 }
 
 #[test]
-fn numbers_are_told_with_the_answer(rt: HostRuntime) -> Result<(), Fail> {
-    let alloc = rt.alloc();
-    let job = job_of(alloc, LIFT, Task::Rnea, true).ok_or("the robot is built")?;
-    let line = lifted(
-        alloc,
-        &job,
-        2,
-        Iv::new(1_500_000_000_000, 1_500_000_000_000),
-    )?;
-    assert_eq!(rt;
-        line.bytes(),
-        b"2,ok,,0.000000000000..0.000000000000,0.000000000000..0.000000000000,1.500000000000..1.500000000000,0.000000000000..0.000000000000,22.620000000000..22.620000000000\n".as_slice()
-    );
-    Ok(())
+fn numbers_are_told_with_the_answer(rt: HostRuntime) {
+    let line =
+        b"2,ok,,0.000000000000..0.000000000000,0.000000000000..0.000000000000,1.500000000000..1.500000000000,0.000000000000..0.000000000000,22.620000000000..22.620000000000\n";
+    assert!(rt; is_raised(rt.alloc(), true, 2, line));
 }
 
-// The force is too large.
-#[test]
-fn sizes_are_refused(rt: HostRuntime) -> Result<(), Fail> {
-    let alloc = rt.alloc();
-    let job = job_of(alloc, HEAVY, Task::Rnea, false).ok_or("the robot is built")?;
-    let line = lifted(alloc, &job, 1, Iv::new(ONE * ONE, ONE * ONE))?;
-    assert_eq!(rt; line.bytes(), b"1,size,b[2],\n".as_slice());
-    Ok(())
+// Whether the force of a car of 10^12 kg at 10^12 m/s² is refused.
+fn is_too_large(alloc: Global) -> bool {
+    let Some(job) = job_of(alloc, HEAVY, Task::Rnea, false) else {
+        return false;
+    };
+    let up = Iv::new(ONE * ONE, ONE * ONE);
+    is_lifted(alloc, &job, 1, up, b"1,size,b[2],\n")
 }
 
 #[test]
-fn slots_without_a_state_are_answered(rt: HostRuntime) -> Result<(), Fail> {
-    let alloc = rt.alloc();
-    let job = job_of(alloc, LIFT, Task::Rnea, false).ok_or("the robot is built")?;
-    let mut slot = Slot::new(alloc, &job)?;
-    let mut work = work_for(alloc, &job)?;
-    answer_slot(&job, &mut slot, &mut work);
-    assert_eq!(rt; slot.answer, Answer::Idle);
+fn sizes_are_refused(rt: HostRuntime) {
+    assert!(rt; is_too_large(rt.alloc()));
+}
+
+// Whether a slot is idle that nothing was read into, and refused where a bad row was.
+fn is_answered_without_state(job: &Job, slot: &mut Slot, work: &mut Work) -> bool
+    requires job { IsJob job.now }
+    requires slot { IsSlotOf job.now slot.old }
+    requires work { IsWorkOf job.now work.old }
+{
+    answer_slot(job, slot, work);
+    let idle = matches!(slot.answer, Answer::Idle);
     let fault = FieldFault {
         kind: FieldKind::Count,
         field: 3,
     };
     slot.input = SlotInput::Bad(fault);
-    answer_slot(&job, &mut slot, &mut work);
-    assert_eq!(rt; slot.answer, Answer::Bad(fault));
-    assert!(rt; slot.is_refused());
-    Ok(())
+    answer_slot(job, slot, work);
+    idle && slot.answer == Answer::Bad(fault) && slot.is_refused()
+}
+
+fn answers_slots(alloc: Global) -> bool {
+    let Some(job) = job_of(alloc, LIFT, Task::Rnea, false) else {
+        return false;
+    };
+    let Ok(mut slot) = Slot::new(alloc, &job) else {
+        return false;
+    };
+    let Ok(mut work) = work_for(alloc, &job) else {
+        return false;
+    };
+    is_answered_without_state(&job, &mut slot, &mut work)
+}
+
+#[test]
+fn slots_without_a_state_are_answered(rt: HostRuntime) {
+    assert!(rt; answers_slots(rt.alloc()));
 }

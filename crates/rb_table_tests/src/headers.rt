@@ -5,7 +5,6 @@ use rb_rows::{Header, HeaderFault, HeaderKind, Target, Task, column_line, head_l
 use rb_tags::{RootKind, Text};
 use rb_tree::Robot;
 use std::alloc::{AllocError, Global};
-use std::test::*;
 
 // The longest line that is read.
 const LONG: usize = 65_536;
@@ -21,7 +20,9 @@ fn has_fault(alloc: Global, robot: &Robot, line: &[u8], kind: HeaderKind, field:
 }
 
 // The first line of a table of the arm, and what its fields stand for.
-const TARGETS: [(&[u8], &[Target]); 2] = [
+type Targets = (&'static [u8], &'static [Target]);
+
+const TARGETS: [Targets; 2] = [
     (
         b"tau.turn,#when,q.turn.sin,a.lift,#when",
         &[
@@ -38,17 +39,25 @@ const TARGETS: [(&[u8], &[Target]); 2] = [
     ),
 ];
 
-#[test]
-fn columns_come_in_any_order(rt: HostRuntime) -> Result<(), Fail> {
-    let arm = robot_on(rt.alloc(), ARM, None).ok_or("the arm")?;
-    for (line, targets) in TARGETS {
-        assert!(rt; has_targets(rt.alloc(), &arm, line, targets), "at {line:?}");
+fn have_targets(alloc: Global, robot: &Robot, rows: &[Targets]) -> bool {
+    for (line, targets) in rows {
+        if !has_targets(alloc, robot, line, targets) {
+            return false;
+        }
     }
-    Ok(())
+    true
+}
+
+#[test]
+fn columns_come_in_any_order(rt: HostRuntime) {
+    let arm = robot_on(rt.alloc(), ARM, None);
+    assert!(rt; matches!(&arm, Some(arm) if have_targets(rt.alloc(), arm, &TARGETS)));
 }
 
 // The first line of a table of the arm, and the kind and the field of its fault.
-const FAULTS: [(&[u8], HeaderKind, u32); 5] = [
+type Refused = (&'static [u8], HeaderKind, u32);
+
+const FAULTS: [Refused; 5] = [
     (b"v.lift\rv.turn", HeaderKind::BadHeader, 0),
     (b"v.lift,\xFF", HeaderKind::BadHeader, 0),
     (b"v.lift,q.turn", HeaderKind::UnknownColumn, 2),
@@ -56,24 +65,26 @@ const FAULTS: [(&[u8], HeaderKind, u32); 5] = [
     (b"v.lift,#,v.lift,x", HeaderKind::ColumnTwice, 3),
 ];
 
-#[test]
-fn headers_are_refused_at_their_first_bad_field(rt: HostRuntime) -> Result<(), Fail> {
-    let arm = robot_on(rt.alloc(), ARM, None).ok_or("the arm")?;
-    for (line, kind, field) in FAULTS {
-        assert!(rt;
-            has_fault(rt.alloc(), &arm, line, kind, field),
-            "at {line:?}"
-        );
+fn have_faults(alloc: Global, robot: &Robot, rows: &[Refused]) -> bool {
+    for (line, kind, field) in rows {
+        if !has_fault(alloc, robot, line, *kind, *field) {
+            return false;
+        }
     }
-    Ok(())
+    true
 }
 
 #[test]
-fn a_joint_that_follows_another_has_no_column(rt: HostRuntime) -> Result<(), Fail> {
-    let follower = robot_on(rt.alloc(), FOLLOWER, None).ok_or("a robot")?;
-    let line = b"tau.lift,q.turn";
-    assert!(rt; has_fault(rt.alloc(), &follower, line, HeaderKind::UnknownColumn, 2));
-    Ok(())
+fn headers_are_refused_at_their_first_bad_field(rt: HostRuntime) {
+    let arm = robot_on(rt.alloc(), ARM, None);
+    assert!(rt; matches!(&arm, Some(arm) if have_faults(rt.alloc(), arm, &FAULTS)));
+}
+
+#[test]
+fn a_joint_that_follows_another_has_no_column(rt: HostRuntime) {
+    let rows: [Refused; 1] = [(b"tau.lift,q.turn", HeaderKind::UnknownColumn, 2)];
+    let follower = robot_on(rt.alloc(), FOLLOWER, None);
+    assert!(rt; matches!(&follower, Some(robot) if have_faults(rt.alloc(), robot, &rows)));
 }
 
 // A line's text, if there is one.
@@ -87,7 +98,9 @@ const QUOTED: &str = "<robot name='arm'><link name='base'/><link name='upper'/>\
 <limit lower='-1' upper='1' effort='1' velocity='1'/></joint></robot>";
 
 // A robot, its root, and the line of its columns.
-const COLUMNS: [(&str, Option<RootKind>, &str); 2] = [
+type Columns = (&'static str, Option<RootKind>, &'static str);
+
+const COLUMNS: [Columns; 2] = [
     (
         BLOCK,
         Some(RootKind::Planar),
@@ -102,13 +115,19 @@ tau.root_joint.vx,tau.root_joint.vy,tau.root_joint.wz\n",
     ),
 ];
 
-#[test]
-fn columns_are_named_in_a_line(rt: HostRuntime) -> Result<(), Fail> {
-    for (text, root, line) in COLUMNS {
-        let robot = robot_on(rt.alloc(), text, root).ok_or("a robot")?;
-        assert!(rt; is_line(column_line(rt.alloc(), &robot), line), "at {line}");
+fn name_columns(alloc: Global, rows: &[Columns]) -> bool {
+    for (text, root, line) in rows {
+        let robot = robot_on(alloc, text, *root);
+        if !matches!(&robot, Some(robot) if is_line(column_line(alloc, robot), line)) {
+            return false;
+        }
     }
-    Ok(())
+    true
+}
+
+#[test]
+fn columns_are_named_in_a_line(rt: HostRuntime) {
+    assert!(rt; name_columns(rt.alloc(), &COLUMNS));
 }
 
 // Two constraints, of which the first holds points along x and turns about z.
@@ -124,7 +143,9 @@ fn constraints_of(alloc: Global, robot: &Robot, text: &str) -> Option<Constraint
 }
 
 // A robot, its constraints, a task, whether the numbers of a row are told, and the first line.
-const HEADS: [(&str, &str, Task, bool, &str); 6] = [
+type Head = (&'static str, &'static str, Task, bool, &'static str);
+
+const HEADS: [Head; 6] = [
     (
         ARM,
         GRIPS,
@@ -163,15 +184,26 @@ const HEADS: [(&str, &str, Task, bool, &str); 6] = [
     ),
 ];
 
-#[test]
-fn the_first_line_names_the_values_of_the_task(rt: HostRuntime) -> Result<(), Fail> {
-    for (text, grips, task, echo, line) in HEADS {
-        let robot = robot_on(rt.alloc(), text, None).ok_or("a robot")?;
-        let cons = constraints_of(rt.alloc(), &robot, grips).ok_or("constraints")?;
-        assert!(rt;
-            is_line(head_line(rt.alloc(), &robot, &cons, task, echo), line),
-            "at {line}"
-        );
+// Whether the first line names the values.
+fn has_head(alloc: Global, robot: &Robot, head: &Head) -> bool {
+    let (_, grips, task, echo, line) = *head;
+    let Some(cons) = constraints_of(alloc, robot, grips) else {
+        return false;
+    };
+    is_line(head_line(alloc, robot, &cons, task, echo), line)
+}
+
+fn have_heads(alloc: Global, rows: &[Head]) -> bool {
+    for head in rows {
+        let robot = robot_on(alloc, head.0, None);
+        if !matches!(&robot, Some(robot) if has_head(alloc, robot, head)) {
+            return false;
+        }
     }
-    Ok(())
+    true
+}
+
+#[test]
+fn the_first_line_names_the_values_of_the_task(rt: HostRuntime) {
+    assert!(rt; have_heads(rt.alloc(), &HEADS));
 }

@@ -1,12 +1,10 @@
 //! Models of small robots, written out by hand.
-use crate::robots::{LIFT, robot_on};
+use crate::robots::{LIFT, robot_on, urdf_in};
 use rb_model::model_text;
-use rb_srdf::read_srdf;
+use rb_srdf::{Srdf, read_srdf};
 use rb_tags::{RootKind, read_tags};
 use rb_tree::{Robot, State};
-use rb_urdf::read_urdf;
 use std::alloc::Global;
-use std::test::*;
 
 const LIFT_LINES: &str = "robot,lift\n\
 joint,1,0,root_joint,fixed,\
@@ -82,16 +80,26 @@ state,\
 0.000000000000..0.000000000000,0.000000000000..0.000000000000,0.000000000000..0.000000000000,1.000000000000..1.000000000000,\
 0.000000000000..0.000000000000\n";
 
+// The second file of a text.
+fn srdf_in(alloc: Global, text: &str) -> Option<Srdf> {
+    let Ok(tags) = read_tags(alloc, text.as_bytes()) else {
+        return None;
+    };
+    read_srdf(alloc, &tags).ok()
+}
+
 fn robot_with_groups(
     alloc: Global,
     urdf: &str,
     srdf: &str,
     root: Option<RootKind>,
 ) -> Option<Robot> {
-    let urdf_tags = read_tags(alloc, urdf.as_bytes()).ok()?;
-    let urdf = read_urdf(alloc, &urdf_tags).ok()?;
-    let srdf_tags = read_tags(alloc, srdf.as_bytes()).ok()?;
-    let srdf = read_srdf(alloc, &srdf_tags).ok()?;
+    let Some(urdf) = urdf_in(alloc, urdf) else {
+        return None;
+    };
+    let Some(srdf) = srdf_in(alloc, srdf) else {
+        return None;
+    };
     Robot::build(alloc, &urdf, Some(&srdf), root).ok()
 }
 
@@ -104,18 +112,14 @@ fn is_model(alloc: Global, robot: &Robot, lines: &str) -> bool {
 }
 
 #[test]
-fn joints_and_links_are_told(rt: HostRuntime) -> Result<(), Fail> {
-    let alloc = rt.alloc();
-    let lift = robot_on(alloc, LIFT, None).ok_or("a robot")?;
-    assert!(rt; is_model(alloc, &lift, LIFT_LINES));
-    Ok(())
+fn joints_and_links_are_told(rt: HostRuntime) {
+    let lift = robot_on(rt.alloc(), LIFT, None);
+    assert!(rt; matches!(&lift, Some(lift) if is_model(rt.alloc(), lift, LIFT_LINES)));
 }
 
 #[test]
-fn groups_and_followers_are_told(rt: HostRuntime) -> Result<(), Fail> {
-    let alloc = rt.alloc();
+fn groups_and_followers_are_told(rt: HostRuntime) {
     let root = Some(RootKind::Floating);
-    let hand = robot_with_groups(alloc, HAND, HAND_GROUPS, root).ok_or("a robot")?;
-    assert!(rt; is_model(alloc, &hand, HAND_LINES));
-    Ok(())
+    let hand = robot_with_groups(rt.alloc(), HAND, HAND_GROUPS, root);
+    assert!(rt; matches!(&hand, Some(hand) if is_model(rt.alloc(), hand, HAND_LINES)));
 }

@@ -1,13 +1,22 @@
 //! The texts of small robots, and the robots that they make.
 use rb_tags::{RootKind, read_tags};
 use rb_tree::Robot;
-use rb_urdf::read_urdf;
+use rb_urdf::{UrdfRobot, read_urdf};
 use std::alloc::Global;
+
+// The robot file of a text.
+pub(crate) fn urdf_in(alloc: Global, text: &str) -> Option<UrdfRobot> {
+    let Ok(tags) = read_tags(alloc, text.as_bytes()) else {
+        return None;
+    };
+    read_urdf(alloc, &tags).ok()
+}
 
 // The robot of a file with such a root; nothing if the file holds none.
 pub(crate) fn robot_on(alloc: Global, text: &str, root: Option<RootKind>) -> Option<Robot> {
-    let tags = read_tags(alloc, text.as_bytes()).ok()?;
-    let urdf = read_urdf(alloc, &tags).ok()?;
+    let Some(urdf) = urdf_in(alloc, text) else {
+        return None;
+    };
     Robot::build(alloc, &urdf, None, root).ok()
 }
 

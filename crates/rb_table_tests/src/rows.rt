@@ -8,7 +8,6 @@ use rb_num::Iv;
 use rb_rows::{FieldFault, FieldKind, Header, LineFault, read_row};
 use rb_tree::{Robot, State};
 use std::alloc::Global;
-use std::test::*;
 
 const ONE: i64 = 1_000_000_000_000;
 
@@ -52,9 +51,10 @@ fn told(
     let Ok(mut state) = State::new(alloc, robot) else {
         return None;
     };
-    match read_under(alloc, &header, line, &mut state)? {
-        Ok(()) => Some(Ok([state.v(0), state.v(1), state.tau(0)])),
-        Err(fault) => Some(Err(fault)),
+    match read_under(alloc, &header, line, &mut state) {
+        Some(Ok(())) => Some(Ok([state.v(0), state.v(1), state.tau(0)])),
+        Some(Err(fault)) => Some(Err(fault)),
+        None => None,
     }
 }
 
@@ -90,7 +90,9 @@ const THREE: &[u8] = b"v.turn,#when,tau.lift";
 const TURN: &[u8] = b"v.turn";
 
 // The names of columns, a line, and the speeds and the torque that it tells. Of the lines that say the same, one has no quotes, CR or byte order mark.
-const TOLD: [(&[u8], &[u8], [i64; 2], i64); 6] = [
+type Told = (&'static [u8], &'static [u8], [i64; 2], i64);
+
+const TOLD: [Told; 6] = [
     (FOUR, b"1,noon,2,3", [3 * ONE, ONE], 2 * ONE),
     (FOUR, b"\"1\",\"a,\"\"b\",,\"3", [3 * ONE, ONE], 0),
     (FOUR, b"\xEF\xBB\xBF1,,,", [0, ONE], 0),
@@ -99,20 +101,25 @@ const TOLD: [(&[u8], &[u8], [i64; 2], i64); 6] = [
     (TURN, b"\"5\"", [0, 5 * ONE], 0),
 ];
 
-#[test]
-fn rows_tell_the_numbers_of_their_columns(rt: HostRuntime) -> Result<(), Fail> {
-    let arm = robot_on(rt.alloc(), ARM, None).ok_or("the arm")?;
-    for (names, line, speeds, torque) in TOLD {
-        assert!(rt;
-            tells(rt.alloc(), &arm, names, line, speeds, torque),
-            "at {line:?}"
-        );
+fn tell_all(alloc: Global, robot: &Robot, rows: &[Told]) -> bool {
+    for (names, line, speeds, torque) in rows {
+        if !tells(alloc, robot, names, line, *speeds, *torque) {
+            return false;
+        }
     }
-    Ok(())
+    true
+}
+
+#[test]
+fn rows_tell_the_numbers_of_their_columns(rt: HostRuntime) {
+    let arm = robot_on(rt.alloc(), ARM, None);
+    assert!(rt; matches!(&arm, Some(arm) if tell_all(rt.alloc(), arm, &TOLD)));
 }
 
 // The names of columns, a line, and the kind and the field of its fault.
-const FAULTS: [(&[u8], &[u8], FieldKind, u32); 7] = [
+type Refused = (&'static [u8], &'static [u8], FieldKind, u32);
+
+const FAULTS: [Refused; 7] = [
     (THREE, b"1\r2", FieldKind::Count, 0),
     (THREE, b"x,y", FieldKind::Count, 2),
     (THREE, b"x,y,z,", FieldKind::Count, 4),
@@ -122,14 +129,17 @@ const FAULTS: [(&[u8], &[u8], FieldKind, u32); 7] = [
     (TURN, b"5\"", FieldKind::NotNumber, 1),
 ];
 
-#[test]
-fn rows_are_refused_at_their_first_bad_field(rt: HostRuntime) -> Result<(), Fail> {
-    let arm = robot_on(rt.alloc(), ARM, None).ok_or("the arm")?;
-    for (names, line, kind, field) in FAULTS {
-        assert!(rt;
-            is_refused(rt.alloc(), &arm, names, line, kind, field),
-            "at {line:?}"
-        );
+fn are_refused(alloc: Global, robot: &Robot, rows: &[Refused]) -> bool {
+    for (names, line, kind, field) in rows {
+        if !is_refused(alloc, robot, names, line, *kind, *field) {
+            return false;
+        }
     }
-    Ok(())
+    true
+}
+
+#[test]
+fn rows_are_refused_at_their_first_bad_field(rt: HostRuntime) {
+    let arm = robot_on(rt.alloc(), ARM, None);
+    assert!(rt; matches!(&arm, Some(arm) if are_refused(rt.alloc(), arm, &FAULTS)));
 }

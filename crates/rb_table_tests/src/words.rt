@@ -2,9 +2,8 @@
 use rb_num::Iv;
 use rb_rows::Task;
 use rb_tags::RootKind;
-use rb_words::{Order, WordsFault, WordsStop, read_words};
+use rb_words::{Command, Order, WordsFault, WordsStop, read_words};
 use std::alloc::{AllocError, Global};
-use std::test::*;
 
 const S: i128 = 1_000_000_000_000;
 
@@ -18,67 +17,85 @@ fn words_of(alloc: Global, line: &[&str]) -> Result<Vec<String>, AllocError> {
     Ok(words)
 }
 
-#[test]
-fn two_options_suffice(rt: HostRuntime) -> Result<(), Fail> {
-    let alloc = rt.alloc();
-    let words = words_of(alloc, &["--urdf", "-", "--task", "rnea"])?;
+// Whether a command has only what must be there.
+fn is_least(command: &Command<'_>) -> bool {
+    let earth = Iv::new(-9_810_000_000_000, -9_810_000_000_000);
+    command.order == Order::Rows(Task::Rnea)
+        && command.urdf == "-"
+        && command.rows == "-"
+        && command.srdf.is_none()
+        && command.state.is_none()
+        && command.root.is_none()
+        && !command.echo
+        && command.constraints.is_none()
+        && command.gravity.x() == Iv::ZERO
+        && command.gravity.y() == Iv::ZERO
+        && command.gravity.z() == earth
+}
+
+fn reads_least(alloc: Global) -> bool {
+    let Ok(words) = words_of(alloc, &["--urdf", "-", "--task", "rnea"]) else {
+        return false;
+    };
     let mut told = String::new(alloc);
     let read = read_words(alloc, words.as_slice(), &mut told);
-    assert!(rt; read.is_ok());
-    if let Ok(command) = &read {
-        assert_eq!(rt; command.order, Order::Rows(Task::Rnea));
-        assert!(rt; command.urdf == "-" && command.rows == "-");
-        assert!(rt; command.srdf.is_none() && command.state.is_none());
-        assert!(rt; command.root.is_none() && !command.echo);
-        assert!(rt; command.constraints.is_none());
-        assert_eq!(rt; command.gravity.x(), Iv::ZERO);
-        assert_eq!(rt; command.gravity.y(), Iv::ZERO);
-        assert_eq!(rt;
-            command.gravity.z(),
-            Iv::new(-9_810_000_000_000, -9_810_000_000_000)
-        );
-    }
-    assert!(rt; told.is_empty());
-    Ok(())
+    matches!(&read, Ok(command) if is_least(command)) && told.is_empty()
 }
 
 #[test]
-fn options_come_in_any_order(rt: HostRuntime) -> Result<(), Fail> {
-    let alloc = rt.alloc();
-    let line = [
-        "--echo",
-        "--gravity=-1..1,0, 2 ",
-        "--root",
-        "floating",
-        "--constraints",
-        "grips.csv",
-        "--urdf=arm.urdf",
-        "--rows",
-        "table.csv",
-        "--state=half",
-        "--srdf",
-        "arm.srdf",
-        "--task",
-        "contact",
-    ];
-    let words = words_of(alloc, &line)?;
+fn two_options_suffice(rt: HostRuntime) {
+    assert!(rt; reads_least(rt.alloc()));
+}
+
+// Whether a command has all that can be there.
+fn is_most(command: &Command<'_>) -> bool {
+    command.order == Order::Rows(Task::Contact)
+        && command.urdf == "arm.urdf"
+        && command.rows == "table.csv"
+        && command.srdf == Some("arm.srdf")
+        && command.state == Some("half")
+        && command.root == Some(RootKind::Floating)
+        && command.echo
+        && command.constraints == Some("grips.csv")
+        && command.gravity.x() == Iv::new(-S, S)
+        && command.gravity.z() == Iv::new(2 * S, 2 * S)
+}
+
+const MOST: [&str; 14] = [
+    "--echo",
+    "--gravity=-1..1,0, 2 ",
+    "--root",
+    "floating",
+    "--constraints",
+    "grips.csv",
+    "--urdf=arm.urdf",
+    "--rows",
+    "table.csv",
+    "--state=half",
+    "--srdf",
+    "arm.srdf",
+    "--task",
+    "contact",
+];
+
+fn reads_most(alloc: Global) -> bool {
+    let Ok(words) = words_of(alloc, &MOST) else {
+        return false;
+    };
     let mut told = String::new(alloc);
     let read = read_words(alloc, words.as_slice(), &mut told);
-    assert!(rt; read.is_ok());
-    if let Ok(command) = &read {
-        assert_eq!(rt; command.order, Order::Rows(Task::Contact));
-        assert!(rt; command.urdf == "arm.urdf" && command.rows == "table.csv");
-        assert!(rt; command.srdf == Some("arm.srdf") && command.state == Some("half"));
-        assert!(rt; command.root == Some(RootKind::Floating) && command.echo);
-        assert!(rt; command.constraints == Some("grips.csv"));
-        assert_eq!(rt; command.gravity.x(), Iv::new(-S, S));
-        assert_eq!(rt; command.gravity.z(), Iv::new(2 * S, 2 * S));
-    }
-    Ok(())
+    matches!(&read, Ok(command) if is_most(command))
+}
+
+#[test]
+fn options_come_in_any_order(rt: HostRuntime) {
+    assert!(rt; reads_most(rt.alloc()));
 }
 
 // Words behind the program's name, and their fault.
-const FAULTS: [(&[&str], WordsFault); 8] = [
+type Refused = (&'static [&'static str], WordsFault);
+
+const FAULTS: [Refused; 8] = [
     (&[], WordsFault::Words),
     (&["--task", "rnea", "--urdf", "a", "b"], WordsFault::Words),
     (
@@ -113,21 +130,27 @@ const FAULTS: [(&[&str], WordsFault); 8] = [
     ),
 ];
 
-#[test]
-fn faults_are_told(rt: HostRuntime) -> Result<(), Fail> {
-    let alloc = rt.alloc();
-    for (line, fault) in FAULTS {
-        let words = words_of(alloc, line)?;
-        let mut told = String::new(alloc);
-        let read = read_words(alloc, words.as_slice(), &mut told);
-        assert!(rt;
-            matches!(read, Err(WordsStop::Fault(found)) if found == fault),
-            "at {line:?}"
-        );
-        assert!(rt;
-            told.is_empty() == (fault != WordsFault::Words),
-            "at {line:?}"
-        );
+// Whether the words have this fault, and more is told of them where they do not fit.
+fn has_fault(alloc: Global, line: &[&str], fault: WordsFault) -> bool {
+    let Ok(words) = words_of(alloc, line) else {
+        return false;
+    };
+    let mut told = String::new(alloc);
+    let read = read_words(alloc, words.as_slice(), &mut told);
+    matches!(&read, Err(WordsStop::Fault(found)) if *found == fault)
+        && told.is_empty() == (fault != WordsFault::Words)
+}
+
+fn have_faults(alloc: Global, rows: &[Refused]) -> bool {
+    for (line, fault) in rows {
+        if !has_fault(alloc, line, *fault) {
+            return false;
+        }
     }
-    Ok(())
+    true
+}
+
+#[test]
+fn faults_are_told(rt: HostRuntime) {
+    assert!(rt; have_faults(rt.alloc(), &FAULTS));
 }
