@@ -1,15 +1,10 @@
 //! The constants of a body from the numbers of its link and its joint.
+use crate::wholes::whole;
 use rb_body::{BodyFault, LinkRaw, inertia_of, joint_of};
 use rb_joint::{AnyJoint, JointModel};
 use rb_num::{Iv, S};
 use rb_spatial::Vec3;
 use rb_urdf::UrdfKind;
-
-// The whole number `n`.
-fn whole(n: i32) -> Iv {
-    let end = i128::from(n) * S;
-    Iv::new(end, end)
-}
 
 fn three(n: [i32; 3]) -> [Iv; 3] {
     [whole(n[0]), whole(n[1]), whole(n[2])]

@@ -1,9 +1,9 @@
 //! The groups, states and virtual joints of a file of semantics, and its first fault.
-use rb_num::{Iv, S};
-use rb_srdf::{GroupItem, GroupState, Srdf, SrdfFault, SrdfFaultKind, read_srdf};
+use crate::wholes::whole;
+use rb_num::Iv;
+use rb_srdf::{Group, GroupItem, JointNumbers, Srdf, SrdfFault, SrdfFaultKind, Virtual, read_srdf};
 use rb_tags::{RootKind, Text, read_tags};
-use std::alloc::{AllocError, Global};
-use std::test::*;
+use std::alloc::Global;
 
 // A file, and the kind and the place of its fault.
 const FILES: [(&str, SrdfFaultKind, u64); 3] = [
@@ -78,21 +78,29 @@ fn is_faulted(alloc: Global, text: &str, kind: SrdfFaultKind, at: u64) -> bool {
     }
 }
 
-#[test]
-fn files_are_refused(rt: HostRuntime) -> Result<(), Fail> {
-    for (text, kind, at) in FILES.iter() {
-        assert!(rt; is_faulted(rt.alloc(), *text, *kind, *at));
-    }
-    Ok(())
+// Whether a robot of these elements has this fault.
+pub(crate) fn is_refused(alloc: Global, elements: &str, kind: SrdfFaultKind, at: u64) -> bool {
+    let Ok(text) = format!(in alloc; "<robot name='r'>{elements}</robot>") else {
+        return false;
+    };
+    is_faulted(alloc, text.as_str(), kind, at)
 }
 
 #[test]
-fn elements_are_refused(rt: HostRuntime) -> Result<(), Fail> {
-    for (elements, kind, at) in ELEMENTS.iter() {
-        let text = format!(in rt.alloc(); "<robot name='r'>{elements}</robot>")?;
-        assert!(rt; is_faulted(rt.alloc(), text.as_str(), *kind, *at));
+fn files_are_refused(rt: HostRuntime) {
+    for (text, kind, at) in FILES.iter() {
+        assert!(rt; is_faulted(rt.alloc(), text, *kind, *at), "in {text}");
     }
-    Ok(())
+}
+
+#[test]
+fn elements_are_refused(rt: HostRuntime) {
+    for (elements, kind, at) in ELEMENTS.iter() {
+        assert!(rt;
+            is_refused(rt.alloc(), elements, *kind, *at),
+            "in {elements}"
+        );
+    }
 }
 
 const ARM: &str = "<robot name='arm'>
@@ -113,86 +121,109 @@ const ARM: &str = "<robot name='arm'>
 <virtual_joint name='home' type='floating' child_link='palm'/>
 </robot>";
 
-// The semantics of a file.
-fn srdf_in(alloc: Global, text: &str) -> Result<Srdf, &'static str> {
-    let tags = read_tags(alloc, text.as_bytes()).ok().ok_or("tags")?;
-    read_srdf(alloc, &tags).ok().ok_or("semantics")
+// The semantics of the arm.
+fn arm(alloc: Global) -> Option<Srdf> {
+    let Ok(tags) = read_tags(alloc, ARM.as_bytes()) else {
+        return None;
+    };
+    read_srdf(alloc, &tags).ok()
 }
 
-// The items of the group of the arm.
-fn arm_items(alloc: Global) -> Result<[GroupItem; 3], AllocError> {
-    let hand = GroupItem::Group(Text::copy(alloc, "hand")?);
-    let base = Text::copy(alloc, "base")?;
-    let wrist = Text::copy(alloc, "wrist")?;
-    let lift = GroupItem::Joint(Text::copy(alloc, "lift")?);
-    Ok([hand, GroupItem::Chain(base, wrist), lift])
+fn is_hand(item: &GroupItem) -> bool {
+    matches!(item, GroupItem::Group(name) if name.as_str() == "hand")
+}
+
+fn is_chain(item: &GroupItem) -> bool {
+    matches!(item, GroupItem::Chain(base, tip) if base.as_str() == "base" && tip.as_str() == "wrist")
+}
+
+fn is_lift(item: &GroupItem) -> bool {
+    matches!(item, GroupItem::Joint(name) if name.as_str() == "lift")
+}
+
+// Whether this is the group of all of the arm.
+fn is_all(group: &Group) -> bool {
+    let [first, second, third] = group.items.as_slice() else {
+        return false;
+    };
+    group.name.as_str() == "all"
+        && group.place == 27
+        && is_hand(first)
+        && is_chain(second)
+        && is_lift(third)
+}
+
+// Whether the palm is all that the group names.
+fn has_palm(alloc: Global, group: &Group) -> bool {
+    let Ok(name) = Text::copy(alloc, "palm") else {
+        return false;
+    };
+    group.items.as_slice() == [GroupItem::Link(name)].as_slice()
+}
+
+fn has_groups(alloc: Global, srdf: &Srdf) -> bool {
+    let [all, hand] = srdf.groups().as_slice() else {
+        return false;
+    };
+    is_all(all) && has_palm(alloc, hand) && srdf.holding_order() == [1, 0].as_slice()
+}
+
+fn is_named(srdf: &Srdf) -> bool {
+    srdf.name() == "arm" && srdf.place() == 0
 }
 
 #[test]
-fn groups_are_read(rt: HostRuntime) -> Result<(), Fail> {
-    let srdf = srdf_in(rt.alloc(), ARM)?;
-    assert_eq!(rt; srdf.name(), "arm");
-    assert_eq!(rt; srdf.place(), 0);
-    let groups = srdf.groups().as_slice();
-    assert_eq!(rt; groups.len(), 2);
-    let all = groups.get(0).ok_or("all")?;
-    assert_eq!(rt; all.name.as_str(), "all");
-    assert_eq!(rt; all.place, 27);
-    assert!(rt; all.items.as_slice() == arm_items(rt.alloc())?.as_slice());
-    let hand = groups.get(1).ok_or("hand")?;
-    let palm = GroupItem::Link(Text::copy(rt.alloc(), "palm")?);
-    assert!(rt; hand.items.as_slice() == [palm].as_slice());
-    assert!(rt; srdf.holding_order() == [1, 0].as_slice());
-    Ok(())
+fn groups_are_read(rt: HostRuntime) {
+    let srdf = arm(rt.alloc());
+    assert!(rt; matches!(&srdf, Some(srdf) if is_named(srdf) && has_groups(rt.alloc(), srdf)));
 }
 
-// So many whole units of 1.
-fn whole(n: i8) -> Iv {
-    let units = i128::from(n) * S;
-    Iv::new(units, units)
+fn has_numbers(value: &JointNumbers, name: &str, numbers: &[Iv]) -> bool {
+    value.joint.as_str() == name && value.numbers.as_slice() == numbers
 }
 
-fn has_numbers(state: &GroupState, joint: usize, name: &str, numbers: &[Iv]) -> bool {
-    match state.values.as_slice().get(joint) {
-        Some(value) => value.joint.as_str() == name && value.numbers.as_slice() == numbers,
-        None => false,
-    }
-}
-
-#[test]
-fn states_are_read(rt: HostRuntime) -> Result<(), Fail> {
-    let srdf = srdf_in(rt.alloc(), ARM)?;
-    let states = srdf.states().as_slice();
-    assert_eq!(rt; states.len(), 2);
-    let home = states.get(0).ok_or("home")?;
-    assert_eq!(rt; home.name.as_str(), "home");
-    assert_eq!(rt; home.group.as_str(), "all");
-    assert_eq!(rt; home.values.as_slice().len(), 2);
+// Whether the joints of the state at home have their numbers.
+fn has_home(values: &[JointNumbers]) -> bool {
+    let [lift, base] = values else {
+        return false;
+    };
     let half = Iv::new(500_000_000_000, 500_000_000_000);
-    assert!(rt; has_numbers(home, 0, "lift", [half].as_slice()));
     let range = Iv::new(250_000_000_000, 500_000_000_000);
-    assert!(rt; has_numbers(home, 1, "base", [whole(1), whole(-2), range].as_slice()));
-    let hand = states.get(1).ok_or("hand")?;
-    assert_eq!(rt; hand.group.as_str(), "hand");
-    assert_eq!(rt; hand.values.as_slice().len(), 0);
-    Ok(())
+    has_numbers(lift, "lift", &[half]) && has_numbers(base, "base", &[whole(1), whole(-2), range])
 }
 
-fn is_virtual(srdf: &Srdf, number: usize, name: &str, kind: RootKind, child: &str) -> bool {
-    match srdf.virtuals().as_slice().get(number) {
-        Some(joint) => {
-            joint.name.as_str() == name && joint.kind == kind && joint.child.as_str() == child
-        }
-        None => false,
-    }
+fn has_states(srdf: &Srdf) -> bool {
+    let [home, hand] = srdf.states().as_slice() else {
+        return false;
+    };
+    home.name.as_str() == "home"
+        && home.group.as_str() == "all"
+        && has_home(home.values.as_slice())
+        && hand.group.as_str() == "hand"
+        && hand.values.as_slice().is_empty()
 }
 
 #[test]
-fn virtual_joints_are_read(rt: HostRuntime) -> Result<(), Fail> {
-    let srdf = srdf_in(rt.alloc(), ARM)?;
-    assert_eq!(rt; srdf.virtuals().as_slice().len(), 3);
-    assert!(rt; is_virtual(&srdf, 0, "world", RootKind::Planar, "base"));
-    assert!(rt; is_virtual(&srdf, 1, "bolt", RootKind::Fixed, "palm"));
-    assert!(rt; is_virtual(&srdf, 2, "home", RootKind::Floating, "palm"));
-    Ok(())
+fn states_are_read(rt: HostRuntime) {
+    let srdf = arm(rt.alloc());
+    assert!(rt; matches!(&srdf, Some(srdf) if has_states(srdf)));
+}
+
+fn is_virtual(joint: &Virtual, name: &str, kind: RootKind, child: &str) -> bool {
+    joint.name.as_str() == name && joint.kind == kind && joint.child.as_str() == child
+}
+
+fn has_virtuals(srdf: &Srdf) -> bool {
+    let [world, bolt, home] = srdf.virtuals().as_slice() else {
+        return false;
+    };
+    is_virtual(world, "world", RootKind::Planar, "base")
+        && is_virtual(bolt, "bolt", RootKind::Fixed, "palm")
+        && is_virtual(home, "home", RootKind::Floating, "palm")
+}
+
+#[test]
+fn virtual_joints_are_read(rt: HostRuntime) {
+    let srdf = arm(rt.alloc());
+    assert!(rt; matches!(&srdf, Some(srdf) if has_virtuals(srdf)));
 }

@@ -1,25 +1,6 @@
 //! Groups that hold each other in loops, with places counted by hand.
-use rb_srdf::{Srdf, SrdfFault, SrdfFaultKind, read_srdf};
-use rb_tags::read_tags;
-use std::alloc::{AllocError, Global};
-use std::test::*;
-
-// What a robot of these elements says.
-fn said(alloc: Global, elements: &str) -> Result<Option<Result<Srdf, SrdfFault>>, AllocError> {
-    let text = format!(in alloc; "<robot name='r'>{elements}</robot>")?;
-    match read_tags(alloc, text.as_bytes()) {
-        Ok(tags) => Ok(Some(read_srdf(alloc, &tags))),
-        Err(_) => Ok(None),
-    }
-}
-
-fn has_loop(said: &Option<Result<Srdf, SrdfFault>>, at: u64) -> bool {
-    let fault = SrdfFault {
-        kind: SrdfFaultKind::GroupLoop,
-        at,
-    };
-    matches!(said, Some(Err(found)) if *found == fault)
-}
+use crate::groups::is_refused;
+use rb_srdf::SrdfFaultKind;
 
 // Groups, and the place of the first one that is in a loop. A group that holds one other is 41 bytes long.
 const LOOPS: [(&str, u64); 3] = [
@@ -38,9 +19,11 @@ const LOOPS: [(&str, u64); 3] = [
 ];
 
 #[test]
-fn loops_are_refused(rt: HostRuntime) -> Result<(), Fail> {
-    for (groups, at) in LOOPS {
-        assert!(rt; has_loop(&said(rt.alloc(), groups)?, at));
+fn loops_are_refused(rt: HostRuntime) {
+    for (groups, at) in LOOPS.iter() {
+        assert!(rt;
+            is_refused(rt.alloc(), groups, SrdfFaultKind::GroupLoop, *at),
+            "in {groups}"
+        );
     }
-    Ok(())
 }

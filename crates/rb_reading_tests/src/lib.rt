@@ -17,3 +17,5 @@ mod robots;
 mod streams;
 #[cfg(test)]
 mod tags;
+#[cfg(test)]
+mod wholes;

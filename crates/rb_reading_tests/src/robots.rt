@@ -1,9 +1,11 @@
 //! The links and joints of a robot file, and its first fault.
-use rb_num::{Iv, S};
+use crate::wholes::whole;
+use rb_num::Iv;
 use rb_tags::read_tags;
-use rb_urdf::{UrdfFault, UrdfFaultKind, UrdfKind, UrdfLink, UrdfMimic, UrdfRobot, read_urdf};
+use rb_urdf::{
+    UrdfFault, UrdfFaultKind, UrdfJoint, UrdfKind, UrdfLink, UrdfMimic, UrdfRobot, read_urdf,
+};
 use std::alloc::Global;
-use std::test::*;
 
 // A file, and the kind and the place of its fault.
 const FILES: [(&str, UrdfFaultKind, u64); 6] = [
@@ -99,23 +101,28 @@ fn is_faulted(alloc: Global, text: &str, kind: UrdfFaultKind, at: u64) -> bool {
     }
 }
 
-#[test]
-fn files_are_refused(rt: HostRuntime) -> Result<(), Fail> {
-    for (text, kind, at) in FILES.iter() {
-        assert!(rt; is_faulted(rt.alloc(), *text, *kind, *at));
-    }
-    Ok(())
+// Whether these joints have this fault behind two links.
+fn is_refused(alloc: Global, joints: &str, kind: UrdfFaultKind, at: u64) -> bool {
+    let Ok(text) = format!(in alloc;
+        "<robot name='r'><link name='a'/><link name='b'/>{joints}</robot>"
+    ) else {
+        return false;
+    };
+    is_faulted(alloc, text.as_str(), kind, at)
 }
 
 #[test]
-fn joints_are_refused(rt: HostRuntime) -> Result<(), Fail> {
-    for (joints, kind, at) in JOINTS.iter() {
-        let text = format!(in rt.alloc();
-            "<robot name='r'><link name='a'/><link name='b'/>{joints}</robot>"
-        )?;
-        assert!(rt; is_faulted(rt.alloc(), text.as_str(), *kind, *at));
+fn files_are_refused(rt: HostRuntime) {
+    for (text, kind, at) in FILES.iter() {
+        assert!(rt; is_faulted(rt.alloc(), text, *kind, *at), "in {text}");
     }
-    Ok(())
+}
+
+#[test]
+fn joints_are_refused(rt: HostRuntime) {
+    for (joints, kind, at) in JOINTS.iter() {
+        assert!(rt; is_refused(rt.alloc(), joints, *kind, *at), "in {joints}");
+    }
 }
 
 const ARM: &str = "<robot name='arm'>
@@ -141,21 +148,12 @@ const ARM: &str = "<robot name='arm'>
 <joint name='c' type='continuous'><parent link='a'/><child link='b'/></joint>
 </robot>";
 
-// The robot of a file.
-fn robot_in(alloc: Global, text: &str) -> Result<UrdfRobot, &'static str> {
-    let tags = read_tags(alloc, text.as_bytes()).ok().ok_or("tags")?;
-    read_urdf(alloc, &tags).ok().ok_or("a robot")
-}
-
 // The robot of the arm.
-fn arm(alloc: Global) -> Result<UrdfRobot, &'static str> {
-    robot_in(alloc, ARM)
-}
-
-// So many whole units of 1.
-fn whole(n: i8) -> Iv {
-    let units = i128::from(n) * S;
-    Iv::new(units, units)
+fn arm(alloc: Global) -> Option<UrdfRobot> {
+    let Ok(tags) = read_tags(alloc, ARM.as_bytes()) else {
+        return None;
+    };
+    read_urdf(alloc, &tags).ok()
 }
 
 fn is_link(link: &UrdfLink, name: &str, place: u64, mass: Iv, com: [Iv; 3], six: [Iv; 6]) -> bool {
@@ -167,58 +165,68 @@ fn is_link(link: &UrdfLink, name: &str, place: u64, mass: Iv, com: [Iv; 3], six:
         && link.six == six
 }
 
-#[test]
-fn links_are_read(rt: HostRuntime) -> Result<(), Fail> {
-    let robot = arm(rt.alloc())?;
-    let links = robot.links().as_slice();
-    assert_eq!(rt; links.len(), 2);
-    let half = Iv::new(2_500_000_000_000, 2_500_000_000_000);
+fn has_links(robot: &UrdfRobot) -> bool {
+    let [first, _] = robot.links().as_slice() else {
+        return false;
+    };
+    let mass = Iv::new(2_500_000_000_000, 2_500_000_000_000);
     let centre = [whole(1), whole(2), whole(3)];
     let least = Iv::new(-1, 0);
     let six = [whole(1), Iv::ZERO, Iv::ZERO, Iv::ZERO, least, Iv::ZERO];
-    assert!(rt; is_link(links.get(0).ok_or("a")?, "a", 19, half, centre, six));
-    Ok(())
-}
-
-fn is_joint(
-    robot: &UrdfRobot,
-    number: usize,
-    kind: UrdfKind,
-    axis: [Iv; 3],
-    mimic: Option<UrdfMimic>,
-) -> bool {
-    match robot.joints().as_slice().get(number) {
-        Some(joint) => joint.kind == kind && joint.axis == axis && joint.mimic == mimic,
-        None => false,
-    }
+    is_link(first, "a", 19, mass, centre, six)
 }
 
 #[test]
-fn joints_are_read(rt: HostRuntime) -> Result<(), Fail> {
-    let robot = arm(rt.alloc())?;
-    assert_eq!(rt; robot.joints().as_slice().len(), 5);
-    let (zero, one) = (Iv::ZERO, Iv::ONE);
-    let (x, y, z) = ([one, zero, zero], [zero, one, zero], [zero, zero, one]);
+fn links_are_read(rt: HostRuntime) {
+    let robot = arm(rt.alloc());
+    assert!(rt; matches!(&robot, Some(robot) if has_links(robot)));
+}
+
+fn is_joint(joint: &UrdfJoint, kind: UrdfKind, axis: [Iv; 3], mimic: Option<UrdfMimic>) -> bool {
+    joint.kind == kind && joint.axis == axis && joint.mimic == mimic
+}
+
+fn is_follower(joint: &UrdfJoint, axis: [Iv; 3]) -> bool {
     let mimic = UrdfMimic {
         master: 1,
         multiplier: whole(-2),
-        offset: zero,
+        offset: Iv::ZERO,
     };
-    assert!(rt; is_joint(&robot, 0, UrdfKind::Revolute, x, Some(mimic)));
-    assert!(rt; is_joint(&robot, 1, UrdfKind::Prismatic, y, None));
-    assert!(rt; is_joint(&robot, 2, UrdfKind::Fixed, [zero, zero, zero], None));
-    assert!(rt; is_joint(&robot, 3, UrdfKind::Planar, z, None));
-    assert!(rt; is_joint(&robot, 4, UrdfKind::Continuous, x, None));
-    Ok(())
+    is_joint(joint, UrdfKind::Revolute, axis, Some(mimic))
+}
+
+fn has_joints(robot: &UrdfRobot) -> bool {
+    let [follower, slider, fixed, planar, wheel] = robot.joints().as_slice() else {
+        return false;
+    };
+    let (zero, one) = (Iv::ZERO, Iv::ONE);
+    let (x, y, z) = ([one, zero, zero], [zero, one, zero], [zero, zero, one]);
+    is_follower(follower, x)
+        && is_joint(slider, UrdfKind::Prismatic, y, None)
+        && is_joint(fixed, UrdfKind::Fixed, [zero, zero, zero], None)
+        && is_joint(planar, UrdfKind::Planar, z, None)
+        && is_joint(wheel, UrdfKind::Continuous, x, None)
 }
 
 #[test]
-fn ends_are_read(rt: HostRuntime) -> Result<(), Fail> {
-    let robot = arm(rt.alloc())?;
-    let joint = robot.joints().as_slice().get(0).ok_or("a")?;
-    assert_eq!(rt; joint.parent, 1);
-    assert_eq!(rt; joint.child, 0);
-    assert!(rt; joint.xyz == [Iv::ZERO, Iv::ZERO, Iv::ZERO]);
-    assert!(rt; joint.rpy == [Iv::ZERO, Iv::ZERO, Iv::ONE]);
-    Ok(())
+fn joints_are_read(rt: HostRuntime) {
+    let robot = arm(rt.alloc());
+    assert!(rt; matches!(&robot, Some(robot) if has_joints(robot)));
+}
+
+// Whether the first joint goes from the second link to the first, turned by 1 about z.
+fn has_ends(robot: &UrdfRobot) -> bool {
+    let Some(joint) = robot.joints().as_slice().first() else {
+        return false;
+    };
+    joint.parent == 1
+        && joint.child == 0
+        && joint.xyz == [Iv::ZERO, Iv::ZERO, Iv::ZERO]
+        && joint.rpy == [Iv::ZERO, Iv::ZERO, Iv::ONE]
+}
+
+#[test]
+fn ends_are_read(rt: HostRuntime) {
+    let robot = arm(rt.alloc());
+    assert!(rt; matches!(&robot, Some(robot) if has_ends(robot)));
 }
