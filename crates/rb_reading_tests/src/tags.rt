@@ -4,7 +4,6 @@ use rb_tags::{
     read_tags,
 };
 use std::alloc::{AllocError, Global};
-use std::test::*;
 
 const LIFT: &[u8] =
     b"<robot name=\"lift\"><link name=\"base\"/><link name=\"car\"><inertial><mass value=\"2\"/></inertial></link><joint name=\"lift\" type=\"prismatic\"><parent link=\"base\"/><child link=\"car\"/><axis xyz=\"0 0 1\"/></joint></robot>";
@@ -25,18 +24,31 @@ fn is_tag(tag: &Tag, name: &str, place: u64, depth: u32) -> bool {
     tag.name.as_str() == name && tag.place == place && tag.depth == depth
 }
 
-#[test]
-fn lift(rt: HostRuntime) -> Result<(), Fail> {
-    let tags = read_tags(rt.alloc(), LIFT).ok().ok_or("the lift is read")?;
-    assert_eq!(rt; tags.as_slice().len(), 9);
-    for (tag, (name, place, depth)) in tags.as_slice().iter().zip(LIFT_TAGS.iter()) {
-        assert!(rt; is_tag(tag, name, *place, *depth), "at {place}");
+fn is_lift(tags: &[Tag]) -> bool {
+    for (tag, (name, place, depth)) in tags.iter().zip(LIFT_TAGS.iter()) {
+        if !is_tag(tag, name, *place, *depth) {
+            return false;
+        }
     }
-    let joint = tags.as_slice().get(5).ok_or("the joint")?;
-    let kind = joint.attrs.as_slice().get(1).ok_or("its second attribute")?;
-    assert_eq!(rt; kind.name.as_str(), "type");
-    assert_eq!(rt; kind.value.as_str(), "prismatic");
-    Ok(())
+    tags.len() == 9
+}
+
+// Whether the second attribute says that a joint slides.
+fn slides(tag: &Tag) -> bool {
+    let [_, kind] = tag.attrs.as_slice() else {
+        return false;
+    };
+    kind.name.as_str() == "type" && kind.value.as_str() == "prismatic"
+}
+
+#[test]
+fn lift(rt: HostRuntime) {
+    let Ok(tags) = read_tags(rt.alloc(), LIFT) else {
+        assert!(rt; false, "the lift is read");
+        return;
+    };
+    let tags = tags.as_slice();
+    assert!(rt; is_lift(tags) && matches!(tags.get(5), Some(joint) if slides(joint)));
 }
 
 // A file, how many tags it has, and the name, the place and the depth of the last.
@@ -115,16 +127,19 @@ const BAD_VALUES: [&str; 9] = [
     "&#٣;",
 ];
 
+// Whether an attribute cannot have this value.
+fn is_bad(alloc: Global, value: &str) -> bool {
+    let Ok(text) = format!(in alloc; "<a b=\"1{value}\"/>") else {
+        return false;
+    };
+    is_faulted(alloc, text.as_bytes(), TagKind::BadMark, 0)
+}
+
 #[test]
-fn bad_values(rt: HostRuntime) -> Result<(), Fail> {
+fn bad_values(rt: HostRuntime) {
     for value in BAD_VALUES.iter() {
-        let text = format!(in rt.alloc(); "<a b=\"1{value}\"/>")?;
-        assert!(rt;
-            is_faulted(rt.alloc(), text.as_bytes(), TagKind::BadMark, 0),
-            "at {value}"
-        );
+        assert!(rt; is_bad(rt.alloc(), value), "at {value}");
     }
-    Ok(())
 }
 
 // A file that is not UTF-8, and the place of its fault.
@@ -187,40 +202,6 @@ const DEEP: [(&str, TagKind, u64); 3] = [
     ("</b>", TagKind::Mismatch, 192),
 ];
 
-#[test]
-fn depth(rt: HostRuntime) -> Result<(), Fail> {
-    let mut text = repeated(rt.alloc(), "<a>", 64)?;
-    for (tail, kind, at) in DEEP.iter() {
-        let deep = format!(in rt.alloc(); "{text}{tail}")?;
-        assert!(rt;
-            is_faulted(rt.alloc(), deep.as_bytes(), *kind, *at),
-            "in {tail}"
-        );
-    }
-    text.push_str(repeated(rt.alloc(), "</a>", 64)?.as_str())?;
-    let tags = read_tags(rt.alloc(), text.as_bytes())
-        .ok()
-        .ok_or("64 deep")?;
-    let last = tags.as_slice().last().ok_or("the last tag")?;
-    assert_eq!(rt; last.place, 189);
-    assert_eq!(rt; last.depth, 64);
-    Ok(())
-}
-
-#[test]
-fn many(rt: HostRuntime) -> Result<(), Fail> {
-    let mut text = format!(in rt.alloc(); "<a>")?;
-    text.push_str(repeated(rt.alloc(), "<b/>", 262_143)?.as_str())?;
-    let most = format!(in rt.alloc(); "{text}</a>")?;
-    let tags = read_tags(rt.alloc(), most.as_bytes())
-        .ok()
-        .ok_or("262,144 tags")?;
-    assert_eq!(rt; tags.as_slice().len(), 262_144);
-    text.push_str("<b/></a>")?;
-    assert!(rt; is_faulted(rt.alloc(), text.as_bytes(), TagKind::TooMany, 1_048_575));
-    Ok(())
-}
-
 // A piece so many times.
 fn repeated(alloc: Global, piece: &str, count: usize) -> Result<String, AllocError> {
     let mut text = String::new(alloc);
@@ -230,6 +211,60 @@ fn repeated(alloc: Global, piece: &str, count: usize) -> Result<String, AllocErr
     Ok(text)
 }
 
+// Whether this is the first fault behind 64 open elements.
+fn is_deep(alloc: Global, tail: &str, kind: TagKind, at: u64) -> bool {
+    let Ok(mut text) = repeated(alloc, "<a>", 64) else {
+        return false;
+    };
+    text.push_str(tail).is_ok() && is_faulted(alloc, text.as_bytes(), kind, at)
+}
+
+#[test]
+fn depth(rt: HostRuntime) {
+    for (tail, kind, at) in DEEP.iter() {
+        assert!(rt; is_deep(rt.alloc(), tail, *kind, *at), "in {tail}");
+    }
+}
+
+// 64 elements, each in the one before.
+fn deepest(alloc: Global) -> Result<String, AllocError> {
+    let mut text = repeated(alloc, "<a>", 64)?;
+    text.push_str(repeated(alloc, "</a>", 64)?.as_str())?;
+    Ok(text)
+}
+
+#[test]
+fn most_depth(rt: HostRuntime) {
+    let text = deepest(rt.alloc());
+    assert!(rt; matches!(&text, Ok(text) if ends_in(rt.alloc(), text, 64, "a", 189, 64)));
+}
+
+// Whether these elements in another are 262,144.
+fn is_most(alloc: Global, inside: &str) -> bool {
+    let Ok(text) = format!(in alloc; "<a>{inside}</a>") else {
+        return false;
+    };
+    ends_in(alloc, text.as_str(), 262_144, "b", 1_048_571, 2)
+}
+
+// Whether the file has too many tags with one more.
+fn is_too_many(alloc: Global, inside: &str) -> bool {
+    let Ok(text) = format!(in alloc; "<a>{inside}<b/></a>") else {
+        return false;
+    };
+    is_faulted(alloc, text.as_bytes(), TagKind::TooMany, 1_048_575)
+}
+
+#[test]
+fn many(rt: HostRuntime) {
+    let Ok(inside) = repeated(rt.alloc(), "<b/>", 262_143) else {
+        assert!(rt; false, "no memory");
+        return;
+    };
+    let inside = inside.as_str();
+    assert!(rt; is_most(rt.alloc(), inside) && is_too_many(rt.alloc(), inside));
+}
+
 fn is_faulted(alloc: Global, bytes: &[u8], kind: TagKind, at: u64) -> bool {
     match read_tags(alloc, bytes) {
         Ok(_) => false,
@@ -237,43 +272,65 @@ fn is_faulted(alloc: Global, bytes: &[u8], kind: TagKind, at: u64) -> bool {
     }
 }
 
+fn is_first(first: ElementRef<'_>) -> bool {
+    first.inside.len() == 1
+        && first.attribute("c") == Some("1")
+        && first.given("e").is_none()
+        && attribute_in("f", child_in("d", Some(first))).is_none()
+        && is_child("b", 1, first.tag)
+}
+
+fn has_elements(root: ElementRef<'_>) -> bool {
+    let Some(first) = root.child("b") else {
+        return false;
+    };
+    root.inside.len() == 4
+        && is_first(first)
+        && attribute_in("f", child_in("d", Some(root))) == Some(" 1\t2\n")
+}
+
+fn has_element(tags: &[Tag]) -> bool {
+    match tags {
+        [root, behind @ ..] => has_elements(ElementRef::new(root, behind)),
+        [] => false,
+    }
+}
+
 #[test]
-fn elements(rt: HostRuntime) -> Result<(), Fail> {
+fn elements(rt: HostRuntime) {
     let text = "<a><b c='1'><d/></b><b c='2' e=''/><d f=' 1\t2\n'/></a>";
-    let tags = read_tags(rt.alloc(), text.as_bytes()).ok().ok_or(text)?;
-    let (root, behind) = tags.as_slice().split_first().ok_or("a root")?;
-    let root = ElementRef::new(root, behind);
-    assert_eq!(rt; root.inside.len(), 4);
-    let first = root.child("b").ok_or("b")?;
-    assert_eq!(rt; first.inside.len(), 1);
-    assert_eq!(rt; first.attribute("c"), Some("1"));
-    assert_eq!(rt; first.given("e"), None);
-    assert_eq!(rt;
-        attribute_in("f", child_in("d", Some(root))),
-        Some(" 1\t2\n")
-    );
-    assert_eq!(rt; attribute_in("f", child_in("d", Some(first))), None);
-    assert!(rt; is_child("b", 1, first.tag));
-    Ok(())
+    let tags = read_tags(rt.alloc(), text.as_bytes());
+    assert!(rt; matches!(&tags, Ok(tags) if has_element(tags.as_slice())));
+}
+
+// What stands behind the first word, where it is this.
+fn past_word<'b>(text: &'b [u8], word: &[u8]) -> Option<&'b [u8]> {
+    match next_word(text) {
+        Some((found, rest)) if found == word => Some(rest),
+        _ => None,
+    }
+}
+
+fn has_two_words(text: &[u8]) -> bool {
+    let Some(rest) = past_word(text, b"1") else {
+        return false;
+    };
+    matches!(past_word(rest, b"2"), Some(rest) if next_word(rest).is_none())
 }
 
 #[test]
-fn words(rt: HostRuntime) -> Result<(), Fail> {
-    let (first, rest) = next_word(b" 1\t2\n").ok_or("a word")?;
-    assert_eq!(rt; first, b"1".as_slice());
-    let (second, rest) = next_word(rest).ok_or("another")?;
-    assert_eq!(rt; second, b"2".as_slice());
-    assert!(rt; next_word(rest).is_none());
-    Ok(())
+fn words(rt: HostRuntime) {
+    assert!(rt; has_two_words(b" 1\t2\n"));
 }
 
 #[test]
-fn names(rt: HostRuntime) -> Result<(), Fail> {
+fn names(rt: HostRuntime) {
     let mut names = Names::new(rt.alloc());
-    assert!(rt; names.add("a")?);
-    assert!(rt; names.add("b")?);
-    assert!(rt; !names.add("a")?);
-    assert_eq!(rt; names.number_of("b"), Some(1));
-    assert_eq!(rt; names.number_of("c"), None);
-    Ok(())
+    assert!(rt;
+        matches!(names.add("a"), Ok(true))
+            && matches!(names.add("b"), Ok(true))
+            && matches!(names.add("a"), Ok(false))
+            && names.number_of("b") == Some(1)
+            && names.number_of("c").is_none()
+    );
 }
