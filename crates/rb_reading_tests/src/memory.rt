@@ -3,7 +3,7 @@ use rb_io::{
     Bytes, Failed, FileFault, Inputs, MemInputs, MemSink, NoFaultsInputs, NoFaultsSink, Sink,
     next_line, put_all, read_all,
 };
-use std::test::Fail;
+use std::alloc::{AllocError, Global};
 
 // Whether a name was read, and held these bytes.
 pub(crate) fn is_read(read: Result<Bytes, FileFault>, bytes: &[u8]) -> bool {
@@ -24,57 +24,86 @@ pub(crate) fn gives<I: Inputs>(
     inputs.read(&mut buf) == answer && buf.as_slice().starts_with(bytes)
 }
 
-#[test]
-fn inputs_in_memory_fail_where_told(rt: HostRuntime) -> Result<(), Fail> {
-    let alloc = rt.alloc();
+fn some_inputs(alloc: Global) -> Result<MemInputs, AllocError> {
     let mut inputs = MemInputs::new(alloc, 2, &[4])?;
     inputs.add("robot", b"abc")?;
-    assert!(rt; gives(&mut inputs, Ok(0), b""));
-    assert!(rt; inputs.open("robot") == Ok(()));
-    assert!(rt; gives(&mut inputs, Ok(2), b"ab"));
-    assert!(rt; gives(&mut inputs, Err(Failed), b""));
-    assert!(rt; gives(&mut inputs, Ok(1), b"c"));
-    assert!(rt; gives(&mut inputs, Ok(0), b""));
-    assert!(rt; inputs.open("other") == Ok(()));
-    assert!(rt; gives(&mut inputs, Ok(0), b""));
-    Ok(())
+    Ok(inputs)
+}
+
+// Whether the second read from the name fails.
+fn gives_robot<I: Inputs>(inputs: &mut I) -> bool {
+    inputs.open("robot") == Ok(())
+        && gives(inputs, Ok(2), b"ab")
+        && gives(inputs, Err(Failed), b"")
+        && gives(inputs, Ok(1), b"c")
+        && gives(inputs, Ok(0), b"")
+}
+
+fn gives_nothing_else<I: Inputs>(inputs: &mut I) -> bool {
+    inputs.open("other") == Ok(()) && gives(inputs, Ok(0), b"")
 }
 
 #[test]
-fn a_name_is_read_up_to_its_limit(rt: HostRuntime) -> Result<(), Fail> {
-    let alloc = rt.alloc();
+fn inputs_in_memory_fail_where_told(rt: HostRuntime) {
+    let Ok(mut inputs) = some_inputs(rt.alloc()) else {
+        assert!(rt; false, "no memory");
+        return;
+    };
+    let starts_closed = gives(&mut inputs, Ok(0), b"");
+    assert!(rt; starts_closed && gives_robot(&mut inputs) && gives_nothing_else(&mut inputs));
+}
+
+fn two_names(alloc: Global) -> Result<NoFaultsInputs, AllocError> {
     let mut inputs = NoFaultsInputs::new(alloc, 2)?;
     inputs.add("robot", b"abcde")?;
     inputs.add("-", b"")?;
-    let robot = read_all(alloc, &mut inputs, "robot", 5);
-    assert!(rt; is_read(robot, b"abcde"));
-    let long = read_all(alloc, &mut inputs, "robot", 4);
-    assert!(rt; is_refused(long, FileFault::TooLong));
-    let empty = read_all(alloc, &mut inputs, "-", 0);
-    assert!(rt; is_read(empty, b""));
-    Ok(())
+    Ok(inputs)
+}
+
+fn is_limited<I: Inputs>(alloc: Global, inputs: &mut I) -> bool {
+    is_read(read_all(alloc, inputs, "robot", 5), b"abcde")
+        && is_refused(read_all(alloc, inputs, "robot", 4), FileFault::TooLong)
+        && is_read(read_all(alloc, inputs, "-", 0), b"")
 }
 
 #[test]
-fn sinks_in_memory_fail_where_told_and_where_full(rt: HostRuntime) -> Result<(), Fail> {
-    let alloc = rt.alloc();
-    let mut sink = MemSink::new(alloc, 4, 3, &[2])?;
-    assert!(rt; sink.write(b"abcd") == Ok(3));
-    assert!(rt; sink.write(b"de") == Err(Failed));
-    assert!(rt; put_all(&mut sink, b"de") == Err(Failed));
-    assert!(rt; sink.write(b"") == Ok(0));
-    assert!(rt; sink.bytes() == b"abcd".as_slice());
-    Ok(())
+fn a_name_is_read_up_to_its_limit(rt: HostRuntime) {
+    let Ok(mut inputs) = two_names(rt.alloc()) else {
+        assert!(rt; false, "no memory");
+        return;
+    };
+    assert!(rt; is_limited(rt.alloc(), &mut inputs));
+}
+
+// Whether a sink with room for four bytes takes pieces of three, and its second call fails.
+fn takes_pieces<O: Sink>(sink: &mut O) -> bool {
+    sink.write(b"abcd") == Ok(3)
+        && sink.write(b"de") == Err(Failed)
+        && put_all(sink, b"de") == Err(Failed)
+        && sink.write(b"") == Ok(0)
 }
 
 #[test]
-fn a_full_sink_without_faults_keeps_nothing_more(rt: HostRuntime) -> Result<(), Fail> {
-    let alloc = rt.alloc();
-    let mut sink = NoFaultsSink::new(alloc, 4, 3)?;
-    assert!(rt; put_all(&mut sink, b"abcd") == Ok(()));
-    assert!(rt; put_all(&mut sink, b"ef") == Ok(()));
-    assert!(rt; sink.bytes() == b"abcd".as_slice());
-    Ok(())
+fn sinks_in_memory_fail_where_told_and_where_full(rt: HostRuntime) {
+    let Ok(mut sink) = MemSink::new(rt.alloc(), 4, 3, &[2]) else {
+        assert!(rt; false, "no memory");
+        return;
+    };
+    assert!(rt; takes_pieces(&mut sink) && sink.bytes() == b"abcd".as_slice());
+}
+
+// Whether all is put, though there may be less room.
+fn takes_all<O: Sink>(sink: &mut O) -> bool {
+    put_all(sink, b"abcd") == Ok(()) && put_all(sink, b"ef") == Ok(())
+}
+
+#[test]
+fn a_full_sink_without_faults_keeps_nothing_more(rt: HostRuntime) {
+    let Ok(mut sink) = NoFaultsSink::new(rt.alloc(), 4, 3) else {
+        assert!(rt; false, "no memory");
+        return;
+    };
+    assert!(rt; takes_all(&mut sink) && sink.bytes() == b"abcd".as_slice());
 }
 
 #[test]

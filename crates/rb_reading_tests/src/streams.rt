@@ -3,8 +3,8 @@ ghost use Rattle.std.specs.Prelude.{Some};
 
 use crate::memory::{gives, is_read, is_refused};
 use rb_io::{Failed, FileFault, FileInputs, Inputs, Sink, StdSink, put_all, read_all};
+use std::alloc::Global;
 use std::io::{ErrorKind, Read, Write};
-use std::test::Fail;
 use std::{fs, io};
 
 // Gives at most two bytes a call, and fails once, where so many bytes are left.
@@ -54,61 +54,74 @@ impl Write for SlowWriter {
     }
 }
 
+// Whether a stream of seven bytes comes in pieces of two, and fails behind the first.
+fn gives_pieces<I: Inputs>(inputs: &mut I) -> bool {
+    gives(inputs, Ok(0), b"")
+        && inputs.open("-") == Ok(())
+        && gives(inputs, Ok(2), b"ab")
+        && gives(inputs, Err(Failed), b"")
+        && gives(inputs, Ok(2), b"cd")
+}
+
 #[test]
-fn a_stream_is_read_in_pieces_and_fails_once(rt: HostRuntime) -> Result<(), Fail> {
+fn a_stream_is_read_in_pieces_and_fails_once(rt: HostRuntime) {
     let stream = SlowReader {
         bytes: b"abcdefg",
         fails_at: Some(5),
     };
     let mut inputs = FileInputs::with_stream(&rt, stream);
-    assert!(rt; gives(&mut inputs, Ok(0), b""));
-    assert!(rt; inputs.open("-") == Ok(()));
-    assert!(rt; gives(&mut inputs, Ok(2), b"ab"));
-    assert!(rt; gives(&mut inputs, Err(Failed), b""));
-    assert!(rt; gives(&mut inputs, Ok(2), b"cd"));
-    let rest = read_all(rt.alloc(), &mut inputs, "-", 3);
-    assert!(rt; is_read(rest, b"efg"));
-    assert!(rt; gives(&mut inputs, Ok(0), b""));
-    Ok(())
+    let begins = gives_pieces(&mut inputs);
+    let rest = is_read(read_all(rt.alloc(), &mut inputs, "-", 3), b"efg");
+    assert!(rt; begins && rest && gives(&mut inputs, Ok(0), b""));
+}
+
+// Whether the name is missing, and nothing comes then.
+fn gives_none<I: Inputs>(alloc: Global, inputs: &mut I, name: &str) -> bool {
+    is_refused(read_all(alloc, inputs, name, 100), FileFault::Failed) && gives(inputs, Ok(0), b"")
+}
+
+// Whether nothing comes before a name is read, and then these bytes.
+fn begins_with<I: Inputs>(alloc: Global, inputs: &mut I, name: &str, bytes: &[u8]) -> bool {
+    gives(inputs, Ok(0), b"") && is_read(read_all(alloc, inputs, name, 100), bytes)
 }
 
 #[test]
-fn files_are_read_by_name(rt: HostRuntime) -> Result<(), Fail> {
-    let alloc = rt.alloc();
-    let name = "rb_reading_test_input.txt";
-    fs::write(&rt, name, b"two lines\nof text\n")?;
+fn files_are_read_by_name(rt: HostRuntime) {
+    let (name, bytes) = ("rb_reading_test_input.txt", b"two lines\nof text\n");
+    let is_written = fs::write(&rt, name, bytes).is_ok();
     let mut inputs = FileInputs::new(&rt);
-    assert!(rt; gives(&mut inputs, Ok(0), b""));
-    let whole = read_all(alloc, &mut inputs, name, 100);
-    fs::remove_file(&rt, name)?;
-    assert!(rt; is_read(whole, b"two lines\nof text\n"));
-    let missing = read_all(alloc, &mut inputs, name, 100);
-    assert!(rt; is_refused(missing, FileFault::Failed));
-    assert!(rt; gives(&mut inputs, Ok(0), b""));
-    Ok(())
+    let is_whole = begins_with(rt.alloc(), &mut inputs, name, bytes);
+    let is_removed = fs::remove_file(&rt, name).is_ok();
+    let is_missing = gives_none(rt.alloc(), &mut inputs, name);
+    assert!(rt; is_written && is_whole && is_removed && is_missing);
+}
+
+fn takes_pieces<O: Sink>(sink: &mut O) -> bool {
+    sink.write(b"abcde") == Ok(3)
+        && sink.write(b"de") == Err(Failed)
+        && put_all(sink, b"defghij") == Ok(())
 }
 
 #[test]
-fn a_stream_is_written_in_pieces_and_fails_once(rt: HostRuntime) -> Result<(), Fail> {
+fn a_stream_is_written_in_pieces_and_fails_once(rt: HostRuntime) {
     let mut writer = SlowWriter {
         bytes: Vec::new(rt.alloc()),
         fails_at: Some(3),
     };
-    let mut sink = StdSink::new(&mut writer);
-    assert!(rt; sink.write(b"abcde") == Ok(3));
-    assert!(rt; sink.write(b"de") == Err(Failed));
-    assert!(rt; put_all(&mut sink, b"defghij") == Ok(()));
-    assert!(rt; writer.bytes.as_slice() == b"abcdefghij".as_slice());
-    Ok(())
+    let is_taken = takes_pieces(&mut StdSink::new(&mut writer));
+    assert!(rt; is_taken && writer.bytes.as_slice() == b"abcdefghij".as_slice());
+}
+
+// Whether a stream with room for four bytes fails behind them.
+fn fails_where_full<O: Sink>(sink: &mut O) -> bool {
+    put_all(sink, b"abc") == Ok(())
+        && put_all(sink, b"de") == Err(Failed)
+        && sink.write(b"") == Ok(0)
 }
 
 #[test]
-fn a_stream_that_takes_nothing_fails(rt: HostRuntime) -> Result<(), Fail> {
+fn a_stream_that_takes_nothing_fails(rt: HostRuntime) {
     let mut room = [0u8; 4];
-    let mut sink = StdSink::new(room.as_mut_slice());
-    assert!(rt; put_all(&mut sink, b"abc") == Ok(()));
-    assert!(rt; put_all(&mut sink, b"de") == Err(Failed));
-    assert!(rt; sink.write(b"") == Ok(0));
-    assert!(rt; room.as_slice() == b"abcd".as_slice());
-    Ok(())
+    let is_full = fails_where_full(&mut StdSink::new(room.as_mut_slice()));
+    assert!(rt; is_full && room.as_slice() == b"abcd".as_slice());
 }
