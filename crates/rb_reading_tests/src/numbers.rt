@@ -1,7 +1,7 @@
 //! The brackets of number texts, and how intervals are printed.
 use rb_num::Iv;
 use rb_text::{Out, TextFault, read_bracket, read_three};
-use std::test::*;
+use std::alloc::Global;
 
 const ONE: i128 = 1_000_000_000_000;
 
@@ -110,22 +110,33 @@ fn other_lists_are_refused(rt: HostRuntime) {
     }
 }
 
-#[test]
-fn intervals_are_put(rt: HostRuntime) -> Result<(), Fail> {
-    let mut out = Out::with_room(rt.alloc(), 80)?;
-    assert_eq!(rt; out.spare(), 80);
-    out.put_iv(Iv::new(22_620_000_000_000, 22_620_000_000_000));
-    assert!(rt; out.bytes() == b"22.620000000000..22.620000000000".as_slice());
+// Whether an interval that is put behind another, which was cleared, leaves this and so much room of 80 bytes.
+fn is_put(alloc: Global, iv: Iv, text: &[u8], spare: usize) -> bool {
+    let Ok(mut out) = Out::with_room(alloc, 80) else {
+        return false;
+    };
+    let is_fresh = out.spare() == 80;
+    out.put_iv(Iv::ZERO);
     out.clear();
-    out.put_iv(Iv::new(-500_000_000_000, 1));
-    assert!(rt; out.bytes() == b"-0.500000000000..0.000000000001".as_slice());
-    out.clear();
+    out.put_iv(iv);
+    is_fresh && out.bytes() == text && out.spare() == spare
+}
+
+// Whether the longest text of all is put.
+fn is_longest_put(alloc: Global) -> bool {
     let limit = 1_329_227_995_784_915_872_903_807_060_280_344_576;
-    out.put_iv(Iv::new(-limit, limit));
+    let text = b"-1329227995784915872903807.060280344576..1329227995784915872903807.060280344576";
+    is_put(alloc, Iv::new(-limit, limit), text, 1)
+}
+
+#[test]
+fn intervals_are_put(rt: HostRuntime) {
+    let exact = Iv::new(22_620_000_000_000, 22_620_000_000_000);
+    let below = Iv::new(-500_000_000_000, 1);
+    let alloc = rt.alloc();
     assert!(rt;
-        out.bytes()
-            == b"-1329227995784915872903807.060280344576..1329227995784915872903807.060280344576".as_slice()
+        is_put(alloc, exact, b"22.620000000000..22.620000000000", 48)
+            && is_put(alloc, below, b"-0.500000000000..0.000000000001", 49)
+            && is_longest_put(alloc)
     );
-    assert_eq!(rt; out.spare(), 1);
-    Ok(())
 }
