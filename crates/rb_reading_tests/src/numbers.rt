@@ -7,81 +7,95 @@ const ONE: i128 = 1_000_000_000_000;
 
 const MOST: i128 = ONE * ONE;
 
-fn ends(text: &[u8]) -> Result<(i128, i128), TextFault> {
-    let bracket = read_bracket(text)?;
-    Ok((bracket.lo(), bracket.hi()))
+// Whether a text has these ends.
+fn has_ends(text: &[u8], low: i128, high: i128) -> bool {
+    matches!(read_bracket(text), Ok(found) if found.lo() == low && found.hi() == high)
 }
+
+fn is_refused(text: &[u8], fault: TextFault) -> bool {
+    matches!(read_bracket(text), Err(found) if found == fault)
+}
+
+// A text, and both ends of its interval.
+const EXACT: [(&[u8], i128); 12] = [
+    (b"1.5", 1_500_000_000_000),
+    (b" 15e-1 ", 1_500_000_000_000),
+    (b"-.5", -500_000_000_000),
+    (b"0e999", 0),
+    (b"1e+3", 1000 * ONE),
+    (b"0e9999999999999999999999999999999999999999", 0),
+    (b"1e0000000000000000000000000000000000000003", 1000 * ONE),
+    (b"0.0000000000001e1", 1),
+    (b"0001000000000000", MOST),
+    (b"-1e12", -MOST),
+    (b"0.0000000000001e25", MOST),
+    (b"-1E0..-.1e1", -ONE),
+];
 
 #[test]
 fn exact_numbers_have_equal_ends(rt: HostRuntime) {
-    let table: [(&[u8], i128); 12] = [
-        (b"1.5", 1_500_000_000_000),
-        (b" 15e-1 ", 1_500_000_000_000),
-        (b"-.5", -500_000_000_000),
-        (b"0e999", 0),
-        (b"1e+3", 1000 * ONE),
-        (b"0e9999999999999999999999999999999999999999", 0),
-        (b"1e0000000000000000000000000000000000000003", 1000 * ONE),
-        (b"0.0000000000001e1", 1),
-        (b"0001000000000000", MOST),
-        (b"-1e12", -MOST),
-        (b"0.0000000000001e25", MOST),
-        (b"-1E0..-.1e1", -ONE),
-    ];
-    for (text, end) in table {
-        assert!(rt; ends(text) == Ok((end, end)), "at {text:?}");
+    for (text, end) in EXACT.iter() {
+        assert!(rt; has_ends(text, *end, *end), "at {text:?}");
     }
 }
+
+// A text, and the ends of its interval.
+const OTHERS: [(&[u8], i128, i128); 9] = [
+    (b"1e-13", 0, 1),
+    (b"-1e-13", -1, 0),
+    (b"-1e-9999999999999999999999999999999999999999", -1, 0),
+    (b"12.5e-13", 1, 2),
+    (b"-123456e-15", -124, -123),
+    (b"999999999999.9999999999999", MOST - 1, MOST),
+    (b"\t -1..+1", -ONE, ONE),
+    (b"-2..-1e-13", -2 * ONE, 0),
+    (b"-1e12..1e12", -MOST, MOST),
+];
 
 #[test]
 fn other_numbers_have_the_least_interval(rt: HostRuntime) {
-    let table: [(&[u8], i128, i128); 9] = [
-        (b"1e-13", 0, 1),
-        (b"-1e-13", -1, 0),
-        (b"-1e-9999999999999999999999999999999999999999", -1, 0),
-        (b"12.5e-13", 1, 2),
-        (b"-123456e-15", -124, -123),
-        (b"999999999999.9999999999999", MOST - 1, MOST),
-        (b"\t -1..+1", -ONE, ONE),
-        (b"-2..-1e-13", -2 * ONE, 0),
-        (b"-1e12..1e12", -MOST, MOST),
-    ];
-    for (text, low, high) in table {
-        assert!(rt; ends(text) == Ok((low, high)), "at {text:?}");
+    for (text, low, high) in OTHERS.iter() {
+        assert!(rt; has_ends(text, *low, *high), "at {text:?}");
     }
 }
+
+// Texts that are no numbers.
+const NOT_NUMBERS: [&[u8]; 17] = [
+    b"", b"1 2", b"nan", b"0x1", b".", b"1.2.3", b"1,5", b"1e", b"1e1.5", b"1 e5", b"1\n", b"\xff",
+    b"1..", b"..1", b"1..2..3", b"1 .. 2", b"2..1\n",
+];
 
 #[test]
 fn other_texts_are_not_numbers(rt: HostRuntime) {
-    let texts: [&[u8]; 17] = [
-        b"", b"1 2", b"nan", b"0x1", b".", b"1.2.3", b"1,5", b"1e", b"1e1.5", b"1 e5", b"1\n",
-        b"\xff", b"1..", b"..1", b"1..2..3", b"1 .. 2", b"2..1\n",
-    ];
-    for text in texts {
-        assert!(rt; ends(text) == Err(TextFault::NotNumber), "at {text:?}");
+    for text in NOT_NUMBERS.iter() {
+        assert!(rt; is_refused(text, TextFault::NotNumber), "at {text:?}");
     }
 }
+
+// Texts of numbers that are too large.
+const LARGE: [&[u8]; 6] = [
+    b"1000000000000.0000000000001",
+    b"-1000000000000.0000000000000000001",
+    b"10000000000000000000000001e-13",
+    b"-.1e9999999999999999999999999999999999999999",
+    b"1..1e13",
+    b"1e13..-1e13",
+];
 
 #[test]
 fn large_numbers_are_refused(rt: HostRuntime) {
-    let texts: [&[u8]; 6] = [
-        b"1000000000000.0000000000001",
-        b"-1000000000000.0000000000000000001",
-        b"10000000000000000000000001e-13",
-        b"-.1e9999999999999999999999999999999999999999",
-        b"1..1e13",
-        b"1e13..-1e13",
-    ];
-    for text in texts {
-        assert!(rt; ends(text) == Err(TextFault::TooLarge), "at {text:?}");
+    for text in LARGE.iter() {
+        assert!(rt; is_refused(text, TextFault::TooLarge), "at {text:?}");
     }
 }
 
+// Texts of ranges whose end is below their beginning.
+const FALLING: [&[u8]; 3] = [b"1...2", b"2..1", b"0.0000000000015..0.000000000001"];
+
 #[test]
 fn ranges_that_fall_are_refused(rt: HostRuntime) {
-    let texts: [&[u8]; 3] = [b"1...2", b"2..1", b"0.0000000000015..0.000000000001"];
-    for text in texts {
-        assert!(rt; ends(text) == Err(TextFault::Backwards), "at {text:?}");
+    for text in FALLING.iter() {
+        assert!(rt; is_refused(text, TextFault::Backwards), "at {text:?}");
     }
 }
 
@@ -96,17 +110,22 @@ fn three_numbers_are_read(rt: HostRuntime) {
     assert!(rt; three == Ok([one, half, least]));
 }
 
+// Lists that are not three numbers, and their faults.
+const LISTS: [(&[u8], TextFault); 5] = [
+    (b"1 2", TextFault::NotNumber),
+    (b"1 2 3 4", TextFault::NotNumber),
+    (b"1 x 1e13", TextFault::NotNumber),
+    (b"1 1e13 x", TextFault::TooLarge),
+    (b"2..1 1 1", TextFault::Backwards),
+];
+
 #[test]
 fn other_lists_are_refused(rt: HostRuntime) {
-    let texts: [(&[u8], TextFault); 5] = [
-        (b"1 2", TextFault::NotNumber),
-        (b"1 2 3 4", TextFault::NotNumber),
-        (b"1 x 1e13", TextFault::NotNumber),
-        (b"1 1e13 x", TextFault::TooLarge),
-        (b"2..1 1 1", TextFault::Backwards),
-    ];
-    for (text, fault) in texts {
-        assert!(rt; read_three(text) == Err(fault), "at {text:?}");
+    for (text, fault) in LISTS.iter() {
+        assert!(rt;
+            matches!(read_three(text), Err(found) if found == *fault),
+            "at {text:?}"
+        );
     }
 }
 

@@ -272,11 +272,15 @@ fn is_faulted(alloc: Global, bytes: &[u8], kind: TagKind, at: u64) -> bool {
     }
 }
 
+// Whether an attribute has this value.
+fn says(value: Option<&str>, text: &str) -> bool {
+    matches!(value, Some(value) if value == text)
+}
+
 fn is_first(first: ElementRef<'_>) -> bool {
     first.inside.len() == 1
-        && first.attribute("c") == Some("1")
+        && says(first.attribute("c"), "1")
         && first.given("e").is_none()
-        && attribute_in("f", child_in("d", Some(first))).is_none()
         && is_child("b", 1, first.tag)
 }
 
@@ -286,7 +290,8 @@ fn has_elements(root: ElementRef<'_>) -> bool {
     };
     root.inside.len() == 4
         && is_first(first)
-        && attribute_in("f", child_in("d", Some(root))) == Some(" 1\t2\n")
+        && attribute_in("f", child_in("d", Some(first))).is_none()
+        && says(attribute_in("f", child_in("d", Some(root))), " 1\t2\n")
 }
 
 fn has_element(tags: &[Tag]) -> bool {
