@@ -1,5 +1,5 @@
 //! A branched table of three columns, worked by hand, and a refusal of each kind.
-ghost use Rattle.std.specs.Prelude.{◌≡◌, IfOk};
+ghost use Rattle.std.specs.Prelude.{◌≡◌, IfSome};
 ghost use Rattle.rb_work.specs.View.{extent_of};
 
 use crate::bench::whole;
@@ -7,15 +7,18 @@ use rb_factor::{factor, solve};
 use rb_num::Iv;
 use rb_work::{Capitals, Name, NameKind, RowFault, Work, ascends};
 use std::alloc::Global;
-use std::test::*;
 
 // A work for columns alone.
-fn made(alloc: Global, up: &[u32]) -> Result<Work, Fail>
-    ensures { IfOk result (λ w. extent_of w ≡ record { bodies = 0; full = 64; up = up.now; rows = 0 }) }
+fn made(alloc: Global, up: &[u32]) -> Option<Work>
+    ensures { IfSome result (λ w. extent_of w ≡ record { bodies = 0; full = 64; up = up.now; rows = 0 }) }
 {
-    ascends(up).then_some(()).ok_or("columns")?;
-    (up.len() <= 64).then_some(()).ok_or("columns")?;
-    Ok(Work::new(alloc, 0, 64, up, 0)?)
+    if up.len() > 64 || !ascends(up) {
+        return None;
+    }
+    let Ok(work) = Work::new(alloc, 0, 64, up, 0) else {
+        return None;
+    };
+    Some(work)
 }
 
 // The entry of a column and one on its path.
@@ -31,9 +34,9 @@ fn put_right(work: &mut Work, c: u32, value: Iv) {
     }
 }
 
-fn found(work: &Work, c: u32) -> Option<Iv> {
-    (c <= work.columns()).then_some(())?;
-    Some(work.accel(c))
+// Whether a column has this whole number.
+fn has_value(work: &Work, c: u32, number: i32) -> bool {
+    c <= work.columns() && work.accel(c) == whole(number)
 }
 
 fn factor_and_solve(work: &mut Work) -> Result<(), RowFault> {
@@ -41,38 +44,64 @@ fn factor_and_solve(work: &mut Work) -> Result<(), RowFault> {
     solve(work)
 }
 
-#[test]
-fn branched_table_is_solved(rt: HostRuntime) -> Result<(), Fail> {
-    let mut work = made(rt.alloc(), &[0, 1, 1])?;
-    for (c, d, value) in [(1, 1, 4), (2, 1, 1), (2, 2, 2), (3, 1, 3), (3, 3, 3)] {
-        put_entry(&mut work, c, d, whole(value));
-    }
-    for (c, value) in [(1, 15), (2, 5), (3, 12)] {
-        put_right(&mut work, c, whole(value));
-    }
-    assert_eq!(rt; factor_and_solve(&mut work), Ok(()));
-    for c in 1..4 {
-        assert_eq!(rt; found(&work, c), Some(whole(c as i32)));
-    }
-    Ok(())
+// Puts the table with 4 in its first column and 1, 2 and 3, 3 on its branches, and what is to be solved for.
+fn put_branches(work: &mut Work) {
+    put_entry(work, 1, 1, whole(4));
+    put_entry(work, 2, 1, whole(1));
+    put_entry(work, 2, 2, whole(2));
+    put_entry(work, 3, 1, whole(3));
+    put_entry(work, 3, 3, whole(3));
+    put_right(work, 1, whole(15));
+    put_right(work, 2, whole(5));
+    put_right(work, 3, whole(12));
+}
+
+fn solves_branches(alloc: Global) -> bool {
+    let Some(mut work) = made(alloc, &[0, 1, 1]) else {
+        return false;
+    };
+    put_branches(&mut work);
+    matches!(factor_and_solve(&mut work), Ok(()))
+        && has_value(&work, 1, 1)
+        && has_value(&work, 2, 2)
+        && has_value(&work, 3, 3)
 }
 
 #[test]
-fn refusals_bear_their_names(rt: HostRuntime) -> Result<(), Fail> {
-    let mut work = made(rt.alloc(), &[0, 1])?;
+fn branched_table_is_solved(rt: HostRuntime) {
+    assert!(rt; solves_branches(rt.alloc()));
+}
+
+// Whether a last pivot with zero in it is refused.
+fn refuses_pivot(work: &mut Work) -> bool {
     let iv = Iv::new(-1, 1);
-    put_entry(&mut work, 2, 2, iv);
+    put_entry(work, 2, 2, iv);
     let pivot = RowFault::Pivot {
         name: Name::one(NameKind::D, 2),
         iv,
     };
-    assert_eq!(rt; factor(&mut work), Err(pivot));
-    put_entry(&mut work, 2, 2, whole(1));
+    matches!(factor(work), Err(fault) if fault == pivot)
+}
+
+// Whether an entry that is too large is refused.
+fn refuses_size(work: &mut Work) -> bool {
+    put_entry(work, 2, 2, whole(1));
     let large = 1 << 100;
-    put_entry(&mut work, 2, 1, Iv::new(large, large));
+    put_entry(work, 2, 1, Iv::new(large, large));
     let size = RowFault::Size {
         name: Name::two(NameKind::L, 2, 1),
     };
-    assert_eq!(rt; factor(&mut work), Err(size));
-    Ok(())
+    matches!(factor(work), Err(fault) if fault == size)
+}
+
+fn refuses_both(alloc: Global) -> bool {
+    let Some(mut work) = made(alloc, &[0, 1]) else {
+        return false;
+    };
+    refuses_pivot(&mut work) && refuses_size(&mut work)
+}
+
+#[test]
+fn refusals_bear_their_names(rt: HostRuntime) {
+    assert!(rt; refuses_both(rt.alloc()));
 }
