@@ -45,25 +45,25 @@ use Rattle.rb_contact.proofs.Contacted.{right_moves, bias_refused, AreBiased, bi
 abbrev ok : View → Result View RowFault
 ok v = Ok v
 
-done : {A : Type 0} (r : Result A RowFault) (f : A → View) (v : View) → (r >>= λ t. ok (f t)) ≡ Ok v → (t : A) × (r ≡ Ok t) × (f t ≡ v)
+pub done : {A : Type 0} (r : Result A RowFault) (f : A → View) (v : View) → (r >>= λ t. ok (f t)) ≡ Ok v → (t : A) × (r ≡ Ok t) × (f t ≡ v)
 done r f v e = let h = then-ok r (λ t. ok (f t)) v e in (h.0, h.1, same_ok {E = RowFault} (f h.0) v h.2)
 
-not_done : {A : Type 0} (r : Result A RowFault) (f : A → View) (e : RowFault) → (r >>= λ t. ok (f t)) ≡ Err e → r ≡ Err e
+pub not_done : {A : Type 0} (r : Result A RowFault) (f : A → View) (e : RowFault) → (r >>= λ t. ok (f t)) ≡ Err e → r ≡ Err e
 not_done r f e q =
     elim (then-err r (λ t. ok (f t)) e q) [
       | inl h ↦ h
       | inr h ↦ absurd (not-both (ok (f h.0)) (f h.0) e refl h.2)
     ]
 
-resized : (u w : View) → sizes_of w ≡ sizes_of u → IsSized u → IsSized w
+pub resized : (u w : View) → sizes_of w ≡ sizes_of u → IsSized u → IsSized w
 resized u w e sized = sized_from w (extent_of u) sized.extent (e ∙ room_for u (extent_of u) sized refl)
 
-record Coupled (R : ℕ) (mus : List Interval) (b c : View) : Type 0 where
-  rest : c ≡ record b { Y = c.Y; Z = c.Z; pairs = c.pairs }
-  holds : HoldsCoupling R b c (of_row mus)
-  sized : IsSized c
+pub record Coupled (R : ℕ) (mus : List Interval) (b c : View) : Type 0 where
+  pub rest : c ≡ record b { Y = c.Y; Z = c.Z; pairs = c.pairs }
+  pub holds : HoldsCoupling R b c (of_row mus)
+  pub sized : IsSized c
 
-couples : (R : ℕ) (mus : List Interval) (b c : View) → IsSized b → R ≤ b.rows
+pub couples : (R : ℕ) (mus : List Interval) (b c : View) → IsSized b → R ≤ b.rows
     → (couple_of b.up b.rows R b.packed b.J mus (b.Y, b.Z, b.pairs) >>= λ t. ok (record b { Y = t.0; Z = t.1; pairs = t.2 })) ≡ Ok c → Coupled R mus b c
 couples R mus b c sized within e =
     let h = done (couple_of b.up b.rows R b.packed b.J mus (b.Y, b.Z, b.pairs)) (λ t. record b { Y = t.0; Z = t.1; pairs = t.2 }) c e in
@@ -124,12 +124,12 @@ finds_sides k u s sized within e =
       sized = resized u (record u { e = h.0 }) (ap (λ (n : ℕ). record (sizes_of u) { e = n }) (sym (sides_long (columns_of u) k.rows u.Y u.z u.g u.e h.0 h.1))) sized;
     })
 
-record Forces (k : Constraints Interval) (s f : View) : Type 0 where
-  rest : f ≡ record s { e = f.e; lam = f.lam }
-  holds : HoldsRowForces k.rows s f
-  sized : IsSized f
+pub record Forces (k : Constraints Interval) (s f : View) : Type 0 where
+  pub rest : f ≡ record s { e = f.e; lam = f.lam }
+  pub holds : HoldsRowForces k.rows s f
+  pub sized : IsSized f
 
-finds_forces : (k : Constraints Interval) (s f : View) → IsSized s → k.rows ≤ s.rows → forced_of k s ≡ Ok f → Forces k s f
+pub finds_forces : (k : Constraints Interval) (s f : View) → IsSized s → k.rows ≤ s.rows → forced_of k s ≡ Ok f → Forces k s f
 finds_forces k s f sized within e =
     let h = done (row_forces_of s.rows k.rows s.pairs (s.e, s.lam)) (λ t. record s { e = t.0; lam = t.1 }) f e in
     let t = h.0 in

@@ -50,11 +50,11 @@ use Rattle.rb_contact.proofs.SameMotions.{speeds_same, accelerations_same}
 use Rattle.rb_contact.proofs.Totals.{total_same, IsFirstTotal, none_refused, first_same}
 
 -- ---- refusals one after the other
-abbrev One : (RowFault → Type 0) → Type 0
+abbrev pub One : (RowFault → Type 0) → Type 0
 One R = (d e : RowFault) → R d → R e → d ≡ e
 
 -- where a later refusal needs values with which the first one is not refused
-next : (First Later : RowFault → Type 0) (Values : Type 0) → One First → ((e : RowFault) → Values → First e → ⊥) → ((e : RowFault) → Later e → Values) → One Later
+pub next : (First Later : RowFault → Type 0) (Values : Type 0) → One First → ((e : RowFault) → Values → First e → ⊥) → ((e : RowFault) → Later e → Values) → One Later
     → One (λ e. First e ⊎ Later e)
 next First Later Values first not needs later d e (inl a) (inl b) = first d e a b
 next First Later Values first not needs later d e (inl a) (inr b) = absurd (not d (needs e b) a)

@@ -5,7 +5,7 @@ use Rattle.std.proofs.lemmas.List.{length-map}
 use Rattle.std.specs.Prelude.{slice_index_or}
 use Rattle.rb_num.specs.Interval.{Interval, zero_interval}
 use Rattle.rb_result.specs.Steps.{◌>>=◌}
-use Rattle.rb_result.proofs.Results.{same_ok, then-ok, then-err, not-both}
+use Rattle.rb_result.proofs.Results.{then-ok, then-err}
 use Rattle.rb_sweep.specs.Sweep.{Answers, upward}
 use Rattle.rb_sweep.specs.Naming.{run}
 use Rattle.rb_sweep.proofs.Climbing.{length-upward}
@@ -38,37 +38,25 @@ use Rattle.rb_constraint.specs.Steps.{fills_of}
 use Rattle.rb_constraint.proofs.RowPass as RowPass
 use Rattle.rb_coupling.specs.Steps.{of_row}
 use Rattle.rb_coupling.specs.Couple.{HoldsCoupling}
-use Rattle.rb_coupling.specs.Forces.{HoldsRowForces}
 use Rattle.rb_coupling.specs.Sweeps.{couple_of, row_forces_of, added_of}
 use Rattle.rb_coupling.proofs.Answered as Rows
+use Rattle.rb_contact.proofs.Assembled.{room_same, rows_within}
 use Rattle.rb_contact.proofs.Sized.{sized_from}
-use Rattle.rb_contact.proofs.Lengths.{factor_long, divide_long, coupling_long, row_forces_long, added_long}
+use Rattle.rb_contact.proofs.Lengths.{factor_long, divide_long, added_long}
 use Rattle.rb_contact.proofs.OneForward.{numbered}
+use Rattle.rb_contact.proofs.ContactAnswer.{done, not_done, resized, couples, finds_forces}
 use Rattle.rb_impact.specs.Sides.{AreSides, gains_of}
-use Rattle.rb_impact.specs.Pushes.{IsUnpushed, ArePushes, cleared_of}
+use Rattle.rb_impact.specs.Pushes.{ArePushes, cleared_of}
 use Rattle.rb_impact.specs.Speeds.{sped_of}
 use Rattle.rb_impact.specs.Impact.{rigid, AreFactored, AreMet, AreStruck, AreChanged, AreImpact, IsImpactRefused, speeds_in, impulses_in, massed_of, met_of, struck_of, changed_of, impact_of, HasOneImpact, ImpactMeans}
-use Rattle.rb_impact.proofs.Passes.{sides_found, sides_refused, sides_kept, cleared_found, clear_kept, clear_stands, speeds_found, speeds_refused, speeds_kept}
+use Rattle.rb_impact.proofs.Passes.{IsUnpushed, sides_found, sides_refused, sides_kept, cleared_found, clear_kept, clear_stands, speeds_found, speeds_refused, speeds_kept}
 use Rattle.rb_impact.proofs.Pushed.{pushes_from, push_refused}
-use Rattle.rb_impact.proofs.Struck.{room_same, factored_from, tabled_from, couple_refused, met_from, sided_from, row_divisors, struck_from, pushed_from, divisors, AreDivided, divided_from, substitution_refused, changed_from, impact_from}
+use Rattle.rb_impact.proofs.Struck.{factored_from, tabled_from, couple_refused, met_from, sided_from, row_divisors, struck_from, pushed_from, divisors, AreDivided, divided_from, substitution_refused, changed_from, impact_from}
 use Rattle.rb_impact.proofs.OneImpact.{has_one_impact}
 
 -- ---- single steps
 abbrev ok : View → Result View RowFault
 ok v = Ok v
-
-done : {A : Type 0} (r : Result A RowFault) (f : A → View) (v : View) → (r >>= λ t. ok (f t)) ≡ Ok v → (t : A) × (r ≡ Ok t) × (f t ≡ v)
-done r f v e = let h = then-ok r (λ t. ok (f t)) v e in (h.0, h.1, same_ok {E = RowFault} (f h.0) v h.2)
-
-not_done : {A : Type 0} (r : Result A RowFault) (f : A → View) (e : RowFault) → (r >>= λ t. ok (f t)) ≡ Err e → r ≡ Err e
-not_done r f e q =
-    elim (then-err r (λ t. ok (f t)) e q) [
-      | inl h ↦ h
-      | inr h ↦ absurd (not-both (ok (f h.0)) (f h.0) e refl h.2)
-    ]
-
-resized : (u w : View) → sizes_of w ≡ sizes_of u → IsSized u → IsSized w
-resized u w e sized = sized_from w (extent_of u) sized.extent (e ∙ room_for u (extent_of u) sized refl)
 
 record Factorised (m f : View) : Type 0 where
   rest : f ≡ record m { packed = f.packed }
@@ -83,46 +71,6 @@ factorises m f sized e =
       rest = refl;
       holds = Factors.factor_values m sized h.0 h.1;
       sized = resized m (record m { packed = h.0 }) (ap (λ (n : ℕ). record (sizes_of m) { packed = n }) (sym (factor_long m.up m.packed h.0 h.1))) sized;
-    })
-
-record Coupled (R : ℕ) (mus : List Interval) (b c : View) : Type 0 where
-  rest : c ≡ record b { Y = c.Y; Z = c.Z; pairs = c.pairs }
-  holds : HoldsCoupling R b c (of_row mus)
-  sized : IsSized c
-
-couples : (R : ℕ) (mus : List Interval) (b c : View) → IsSized b → R ≤ b.rows
-    → (couple_of b.up b.rows R b.packed b.J mus (b.Y, b.Z, b.pairs) >>= λ t. ok (record b { Y = t.0; Z = t.1; pairs = t.2 })) ≡ Ok c → Coupled R mus b c
-couples R mus b c sized within e =
-    let h = done (couple_of b.up b.rows R b.packed b.J mus (b.Y, b.Z, b.pairs)) (λ t. record b { Y = t.0; Z = t.1; pairs = t.2 }) c e in
-    let t = h.0 in
-    let long = coupling_long b.up b.rows R b.packed b.J mus (b.Y, b.Z, b.pairs) t h.1 in
-    subst (λ (v : View). Coupled R mus b v) h.2
-    (record {
-      rest = refl;
-      holds = Rows.couple_values b sized R within mus t h.1;
-      sized =
-          resized b (record b { Y = t.0; Z = t.1; pairs = t.2 })
-          (ap (λ (n : ℕ). record (sizes_of b) { Y = n; Z = length t.1; pairs = length t.2 }) (sym long.Y) ∙ ap (λ (n : ℕ). record (sizes_of b) { Z = n; pairs = length t.2 }) (sym long.Z)
-          ∙ ap (λ (n : ℕ). record (sizes_of b) { pairs = n }) (sym long.pairs)) sized;
-    })
-
-record Forced (R : ℕ) (s f : View) : Type 0 where
-  rest : f ≡ record s { e = f.e; lam = f.lam }
-  holds : HoldsRowForces R s f
-  sized : IsSized f
-
-forces : (R : ℕ) (s f : View) → IsSized s → R ≤ s.rows → (row_forces_of s.rows R s.pairs (s.e, s.lam) >>= λ t. ok (record s { e = t.0; lam = t.1 })) ≡ Ok f → Forced R s f
-forces R s f sized within e =
-    let h = done (row_forces_of s.rows R s.pairs (s.e, s.lam)) (λ t. record s { e = t.0; lam = t.1 }) f e in
-    let t = h.0 in
-    let long = row_forces_long s.rows R s.pairs (s.e, s.lam) t h.1 in
-    subst (λ (v : View). Forced R s v) h.2
-    (record {
-      rest = refl;
-      holds = Rows.forces_values s sized R within t h.1;
-      sized =
-          resized s (record s { e = t.0; lam = t.1 })
-          (ap (λ (n : ℕ). record (sizes_of s) { e = n; lam = length t.1 }) (sym long.e) ∙ ap (λ (n : ℕ). record (sizes_of s) { lam = n }) (sym long.lam)) sized;
     })
 
 -- ---- a work made for the robot, with so many rows
@@ -383,7 +331,7 @@ module _ (tree : Tree) (row : Row) (k : Constraints Interval) (kept : AreBodies 
       let long : column_count tree.bodies < length f.w = omega (arith, h.met.factored.room.up.count, sized.w) in
       let own : IsSized (record f { w = o.w }) = resized f (record f { w = o.w }) (ap (λ (n : ℕ). record (sizes_of f) { w = n }) same.0) sized in
       cleared_told f o h same.1 (cleared_found tree f o long e) (subst (λ (v : View). IsSized v) (sym same.1) own)
-      (subst (λ (n : ℕ). k.rows ≤ n) (sym (ap (λ (v : View). v.rows) same.1)) within))
+      (rows_within k.rows f o (ap (λ (v : View). v.rows) same.1) within))
       (λ e q. absurd (clear_stands tree f e q))
 
   sides_told : (s : View) → AreMet tree row k s → AreSides row k s → IsSized s → k.rows ≤ s.rows → Told (from_sides s)
@@ -391,8 +339,8 @@ module _ (tree : Tree) (row : Row) (k : Constraints Interval) (kept : AreBodies 
   sides_told s h sides sized within =
       then_told (struck_of k s) (λ f. from_struck f)
       (λ f e.
-      let g = forces k.rows s f sized within e in
-      struck_told f (struck_from tree row k s f h sides g.rest g.holds) g.sized (subst (λ (n : ℕ). k.rows ≤ n) (sym (ap (λ (v : View). v.rows) g.rest)) within))
+      let g = finds_forces k s f sized within e in
+      struck_told f (struck_from tree row k s f h sides g.rest g.holds) g.sized (rows_within k.rows s f (ap (λ (v : View). v.rows) g.rest) within))
       (λ e q. IsImpactRefused.in_impulses s h sides
       (Rows.forces_refused_of s sized k.rows within (row_divisors tree row k s h) e
       (not_done (row_forces_of s.rows k.rows s.pairs (s.e, s.lam)) (λ t. record s { e = t.0; lam = t.1 }) e q)))
@@ -406,7 +354,7 @@ module _ (tree : Tree) (row : Row) (k : Constraints Interval) (kept : AreBodies 
       let long : k.rows < length c.e = omega (arith, within, sized.e) in
       let own : IsSized (record c { e = s.e }) = resized c (record c { e = s.e }) (ap (λ (n : ℕ). record (sizes_of c) { e = n }) same.0) sized in
       sides_told s (sided_from tree row k c s h same.1) (sides_found row k c s long e) (subst (λ (v : View). IsSized v) (sym same.1) own)
-      (subst (λ (n : ℕ). k.rows ≤ n) (sym (ap (λ (v : View). v.rows) same.1)) within))
+      (rows_within k.rows c s (ap (λ (v : View). v.rows) same.1) within))
       (λ e q. IsImpactRefused.in_sides c h (sides_refused row k c e q))
 
   -- ---- the rows
@@ -429,7 +377,7 @@ module _ (tree : Tree) (row : Row) (k : Constraints Interval) (kept : AreBodies 
       (λ c e.
       let g = couples k.rows mus r c sized within e in
       let held : HoldsCoupling (length mus) r c (of_row mus) = subst (λ (R : ℕ). HoldsCoupling R r c (of_row mus)) (sym mus_long) g.holds in
-      met_told c (met_from tree row k r c mus h rows mus_long none_gives g.rest held) g.sized (subst (λ (n : ℕ). k.rows ≤ n) (sym (ap (λ (v : View). v.rows) g.rest)) within))
+      met_told c (met_from tree row k r c mus h rows mus_long none_gives g.rest held) g.sized (rows_within k.rows r c (ap (λ (v : View). v.rows) g.rest) within))
       (λ e q. couple_refused tree row k r mus e h rows mus_long none_gives
       (Rows.couple_refused r sized k.rows within mus mus_long h.factors.divisors e
       (not_done (couple_of r.up r.rows k.rows r.packed r.J mus (r.Y, r.Z, r.pairs)) (λ t. record r { Y = t.0; Z = t.1; pairs = t.2 }) e q)))
@@ -444,7 +392,7 @@ module _ (tree : Tree) (row : Row) (k : Constraints Interval) (kept : AreBodies 
       let f = found _ _ (ordered (RowPass.call tree k (extent_of m)) (RowPass.is_call tree k kept fit (extent_of m) room)) m r (room_for m (extent_of m) h.sized refl) e in
       let rest : r ≡ record m { O = r.O; K = r.K; J = r.J } = sym (ap (λ (v : View). record v { O = r.O; K = r.K; J = r.J }) f.keeps) in
       rows_told r (tabled_from tree row m r h.are rest) (RowPass.rows_found tree k kept fit m r h.sized h.are.room within e)
-      (sized_from r (extent_of m) h.sized.extent f.fits) (subst (λ (n : ℕ). k.rows ≤ n) (sym (ap (λ (v : View). v.rows) rest)) within))
+      (sized_from r (extent_of m) h.sized.extent f.fits) (rows_within k.rows m r (ap (λ (v : View). v.rows) rest) within))
       (λ e q. IsImpactRefused.in_rows m h.are (RowPass.rows_refused tree k kept fit m e h.sized h.are.room within q))
 
   told : Told (impact_of tree row k)

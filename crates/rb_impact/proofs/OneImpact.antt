@@ -50,12 +50,13 @@ use Rattle.rb_coupling.proofs.Enclosing.{pairs_same}
 use Rattle.rb_coupling.proofs.OneCoupling.{coupling_is_one}
 use Rattle.rb_coupling.proofs.OneForce.{forces_are_one}
 use Rattle.rb_contact.proofs.OneForward.{tables_same}
+use Rattle.rb_contact.proofs.OneContact.{One, next}
 use Rattle.rb_impact.specs.Sides.{speed_before, row_speed_of, gain_of, e_rule, AreSides, IsSideRefused}
 use Rattle.rb_impact.specs.Pushes.{w_rule, ArePushes, IsPushRefused}
 use Rattle.rb_impact.specs.Speeds.{y_rule, IsSpeedRefused}
 use Rattle.rb_impact.specs.Impact.{rigid, AreFactored, AreMet, AreStruck, AreChanged, AreImpact, IsImpactRefused, speeds_in, impulses_in, HasOneImpact}
 use Rattle.rb_impact.proofs.Stays.{places_stay, met_stays}
-use Rattle.rb_impact.proofs.Stops.{Stops, none_stops, one_stop, One, next}
+use Rattle.rb_impact.proofs.Stops.{Stops, none_stops, one_stop}
 
 -- ---- what the rules read
 e_reads : (row : Row) (k : Constraints Interval) (r : ℕ) (u w : View) → columns_of u ≡ columns_of w → SameNumbers (columns_of w) (J_at u r) (J_at w r) → e_rule row k r u ≡ e_rule row k r w

@@ -9,10 +9,10 @@ use Rattle.rb_flat.specs.Contact.{Constraints}
 use Rattle.rb_work.specs.declared.names.RowFault.{RowFault}
 use Rattle.rb_work.specs.View.{View, w_at, e_at, y_at}
 use Rattle.rb_tree.specs.Columns.{column_count}
-use Rattle.rb_tree.specs.Robot.{Tree}
+use Rattle.rb_tree.specs.Robot.{Tree, HasColumn}
 use Rattle.rb_tree.specs.State.{Row}
 use Rattle.rb_impact.specs.Sides.{e_rule, side_step, gains_of, AreSides, IsSideRefused}
-use Rattle.rb_impact.specs.Pushes.{clear_step, cleared_of, IsUnpushed}
+use Rattle.rb_impact.specs.Pushes.{clear_step, cleared_of}
 use Rattle.rb_impact.specs.Speeds.{y_rule, speed_step, sped_of, AreSpeeds, IsSpeedRefused}
 use Rattle.rb_impact.proofs.OnePass.{Table, IsTable, kept, pass_found, pass_refused}
 
@@ -50,6 +50,9 @@ sides_refused row k w e r =
     record { number = h.place; there = record { from = h.from; to = h.to }; until = h.until; refused = h.refused }
 
 -- ---- nothing on any column
+pub record IsUnpushed (tree : Tree) (w : View) : Type 0 where
+  pub each_w : (c : ℕ) → HasColumn tree c → w_at w c ≡ zero_interval
+
 abbrev clear_rule : ℕ → View → Result Interval RowFault
 clear_rule c w = Ok zero_interval
 

@@ -17,7 +17,8 @@ use Rattle.rb_tree.specs.Robot.{Tree, HasColumn}
 use Rattle.rb_coupling.specs.Steps.{pairs_of}
 use Rattle.rb_coupling.specs.Forces.{IsTotalRefused, in_sum, in_total, HoldsAddedForces, RefusesAddedForces}
 use Rattle.rb_coupling.proofs.Rigid.{pairs_long, whole}
-use Rattle.rb_impact.specs.Pushes.{w_rule, IsUnpushed, ArePushes, IsPushRefused}
+use Rattle.rb_impact.specs.Pushes.{w_rule, ArePushes, IsPushRefused}
+use Rattle.rb_impact.proofs.Passes.{IsUnpushed}
 
 module _ (n : ℕ) (few : n ≤ 64) (a b : ℕ → Interval) where
   -- what is added to zero

@@ -1,12 +1,11 @@
--- Where rules in turn are refused first is determined by what they give, and so is what is refused of several parts in turn.
-use Rattle.std.proofs.Common.{◌≡◌, ◌⊎◌, inl, inr, ℕ, ◌<◌, ◌≤◌, Result, Ok, Err, sym, ◌∙◌, subst, arith}
+-- Where rules in turn are refused first is determined by what they give.
+use Rattle.std.proofs.Common.{◌≡◌, inl, inr, ℕ, ◌<◌, ◌≤◌, Result, Ok, Err, sym, ◌∙◌, subst, arith}
 use Rattle.std.proofs.lemmas.Bool.{cases_lt}
 use Rattle.rb_num.specs.Interval.{Interval}
 use Rattle.rb_result.proofs.Results.{same_err, not-both}
 use Rattle.rb_elimination.specs.Paths.{IsColumn}
 use Rattle.rb_work.specs.declared.names.RowFault.{RowFault}
 
--- ---- one rule after the other
 -- the first of n rules that is refused
 pub record Stops (n : ℕ) (rule : ℕ → Result Interval RowFault) (e : RowFault) : Type 0 where
   pub place : ℕ
@@ -35,15 +34,3 @@ one_stop n rule rule' same d e s t =
             same_err {A = Interval} d e (sym s.refused ∙ same s.place s.there ∙ subst (λ (i : ℕ). rule' i ≡ Err e) place t.refused)
       ]
     ]
-
--- ---- one part after the other
-abbrev pub One : (RowFault → Type 0) → Type 0
-One R = (d e : RowFault) → R d → R e → d ≡ e
-
--- where a later refusal needs values with which the first one is not refused
-pub next : (First Later : RowFault → Type 0) (Values : Type 0) → One First → ((e : RowFault) → Values → First e → ⊥) → ((e : RowFault) → Later e → Values) → One Later
-    → One (λ e. First e ⊎ Later e)
-next First Later Values first not needs later d e (inl a) (inl b) = first d e a b
-next First Later Values first not needs later d e (inl a) (inr b) = absurd (not d (needs e b) a)
-next First Later Values first not needs later d e (inr a) (inl b) = absurd (not e (needs d a) b)
-next First Later Values first not needs later d e (inr a) (inr b) = later d e a b

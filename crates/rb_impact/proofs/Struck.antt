@@ -7,7 +7,6 @@ use Rattle.rb_flat.specs.Contact.{Constraints}
 use Rattle.rb_work.specs.declared.names.RowFault.{RowFault}
 use Rattle.rb_work.specs.Path.{above}
 use Rattle.rb_work.specs.View.{View, extent_of, columns_of, L_at, D_at, J_at}
-use Rattle.rb_tree.specs.Columns.{AreUps}
 use Rattle.rb_tree.specs.Robot.{Tree}
 use Rattle.rb_tree.specs.State.{Row}
 use Rattle.rb_tree.specs.Places.{IsFor, ArePlaces}
@@ -19,19 +18,13 @@ use Rattle.rb_constraint.specs.Rows.{AreRows}
 use Rattle.rb_coupling.specs.Steps.{of_row}
 use Rattle.rb_coupling.specs.Couple.{HoldsCoupling, HoldsRowDivisors, IsCoupleRefused, RefusesCouple}
 use Rattle.rb_coupling.specs.Forces.{HoldsRowForces}
+use Rattle.rb_contact.proofs.Assembled.{room_same}
 use Rattle.rb_contact.proofs.Constrained.{couple_refused_from, coupling_from}
 use Rattle.rb_impact.specs.Sides.{e_rule, AreSides}
 use Rattle.rb_impact.specs.Pushes.{ArePushes}
 use Rattle.rb_impact.specs.Speeds.{AreSpeeds}
 use Rattle.rb_impact.specs.Impact.{rigid, AreFactored, AreMet, AreStruck, AreChanged, AreImpact, IsImpactRefused}
 use Rattle.rb_impact.proofs.Stays.{places_stay, factored_stays, rows_stay, met_stays, struck_stays, pushes_stay, changed_stays}
-
-pub room_same : (tree : Tree) (u w : View) → extent_of w ≡ extent_of u → IsFor tree u → IsFor tree w
-room_same tree u w e h = record {
-  bodies = ap (λ x. x.bodies) e ∙ h.bodies;
-  full = ap (λ x. x.full) e ∙ h.full;
-  up = subst (AreUps tree.bodies) (sym (ap (λ x. x.up) e)) h.up;
-}
 
 -- ---- rows that do not give way, as a list
 abbrev pub rigid_rows : ℕ → List Interval

@@ -32,10 +32,6 @@ pub record IsPushRefused (tree : Tree) (k : Constraints Interval) (w : View) (e 
   pub until : (c : ℕ) → 1 ≤ c → c < column → (v : Interval) × (w_rule k c w ≡ Ok v)
   pub refused : w_rule k column w ≡ Err e
 
--- nothing is put on any column
-pub record IsUnpushed (tree : Tree) (w : View) : Type 0 where
-  pub each_w : (c : ℕ) → HasColumn tree c → w_at w c ≡ zero_interval
-
 -- ---- what the sweep over the columns leaves that takes away what stood there
 unfoldable pub clear_step : ℕ → View → Result View RowFault
 clear_step c w = Ok (record w { w = slice_set w.w c zero_interval })

@@ -5,7 +5,7 @@ ghost use Rattle.rb_sweep.specs.Sweep.{Answers};
 ghost use Rattle.rb_tree.specs.Columns.{column_count};
 ghost use Rattle.rb_tree.specs.Places.{IsFor};
 ghost use Rattle.rb_constraint.specs.Constraints.{constraints_of};
-ghost use Rattle.rb_impact.specs.Pushes.{clear_step, cleared_of, IsUnpushed, ArePushes, IsPushRefused};
+ghost use Rattle.rb_impact.specs.Pushes.{clear_step, cleared_of, ArePushes, IsPushRefused};
 
 use rb_constraint::Constraints;
 use rb_coupling::add_row_forces;

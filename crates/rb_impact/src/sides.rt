@@ -9,7 +9,7 @@ ghost use Rattle.rb_constraint.specs.Constraints.{constraints_of};
 ghost use Rattle.rb_impact.specs.Sides.{row_speed_of, gain_of, row_gain_of, side_step, gains_of, AreSides, IsSideRefused};
 
 use rb_constraint::Constraints;
-use rb_num::{Iv, NumFault, dot};
+use rb_num::{Iv, MAX_PAIRS, NumFault, dot};
 use rb_tree::State;
 use rb_work::{Capitals, Name, NameKind, RowFault, Work, named};
 
@@ -22,7 +22,7 @@ fn row_speed(state: &State, r: u32, work: &Work) -> Result<Iv, NumFault>
     ensures size { IfErr result (λ e. e ≡ NumFault.Size) }
 {
     let columns = work.columns();
-    let mut pairs = [(Iv::ZERO, Iv::ZERO); 64];
+    let mut pairs = [(Iv::ZERO, Iv::ZERO); MAX_PAIRS];
     for c in 1..columns + 1 {
         pairs[c as usize - 1] = (work.J(r, c), state.v(c as usize - 1));
     }

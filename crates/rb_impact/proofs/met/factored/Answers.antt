@@ -3,8 +3,9 @@ use Rattle.std.proofs.lemmas.Result.{on_ok_weaker, IfErr-weaker}
 use Rattle.rb_work.specs.View.{extent_of}
 use Rattle.rb_factor.specs.Factor.{RefusesFactor}
 use Rattle.rb_constraint.specs.Constraints.{constraints_of}
+use Rattle.rb_contact.proofs.Assembled.{room_same}
 use Rattle.rb_impact.specs.Impact.{IsImpactRefused}
-use Rattle.rb_impact.proofs.Struck.{room_same, factored_from}
+use Rattle.rb_impact.proofs.Struck.{factored_from}
 use Rattle.rb_impact.proofs.met.factored.Goals as goal
 
 pub returns-clause-values : goal.returns-clause-values
