@@ -1,5 +1,5 @@
 -- Why a robot's files are refused, and its constraints.
-use Rattle.std.proofs.Common.{◌≡◌, ◌<◌, ◌≤◌, ℕ, true, false, List, [], length, Option, Some, option_map, Result, Ok, Err, refl, sym, ◌⊎◌, inl, inr, ltb, arith, subst}
+use Rattle.std.proofs.Common.{◌≡◌, ◌<◌, ◌≤◌, ℕ, true, false, List, length, Option, Some, option_map, Result, Ok, Err, refl, sym, ◌⊎◌, inl, inr, ltb, arith, subst}
 use Rattle.std.proofs.lemmas.Bool.Decides.{nat_tests}
 use Rattle.rb_result.specs.Steps.{told_as}
 use Rattle.rb_io.specs.declared.calls.FileFault.{FileFault}
