@@ -3,7 +3,6 @@ use crate::run::run;
 use crate::status::Status;
 use rb_io::{MemInputs, MemSink};
 use std::alloc::{AllocError, Global};
-use std::test::Fail;
 
 const LIFT: &[u8] =
     br#"<robot name="lift"><link name="base"/><link name="car"><inertial><mass value="2"/></inertial></link><joint name="lift" type="prismatic"><parent link="base"/><child link="car"/><axis xyz="0 0 1"/></joint></robot>"#;
@@ -61,6 +60,33 @@ fn words_of(alloc: Global, words: &[&str]) -> Result<Vec<String>, AllocError> {
     Ok(texts)
 }
 
+// The files and standard input; the calls of these numbers fail.
+fn inputs_of(
+    alloc: Global,
+    held: Held<'_>,
+    constraints: &[u8],
+    reads: &[u64],
+) -> Result<MemInputs, AllocError> {
+    let mut inputs = MemInputs::new(alloc, 4096, reads)?;
+    inputs.add("robot.urdf", held.robot)?;
+    inputs.add("robot.srdf", held.poses)?;
+    inputs.add("grips.csv", constraints)?;
+    inputs.add("table.csv", held.rows)?;
+    inputs.add("-", held.rows)?;
+    Ok(inputs)
+}
+
+// What a run has not put yet; the calls of these numbers fail.
+fn nothing_put(alloc: Global, writes: &[u64]) -> Result<Ran, AllocError> {
+    let out = MemSink::new(alloc, 100_000, 100, writes)?;
+    let err = MemSink::new(alloc, 10_000, 7, &[])?;
+    Ok(Ran {
+        status: Status::Done,
+        out,
+        err,
+    })
+}
+
 // Runs these words, with a file of constraints; the calls of these numbers fail.
 fn run_under(
     alloc: Global,
@@ -71,16 +97,21 @@ fn run_under(
     writes: &[u64],
 ) -> Result<Ran, AllocError> {
     let words = words_of(alloc, words)?;
-    let mut inputs = MemInputs::new(alloc, 4096, reads)?;
-    inputs.add("robot.urdf", held.robot)?;
-    inputs.add("robot.srdf", held.poses)?;
-    inputs.add("grips.csv", constraints)?;
-    inputs.add("table.csv", held.rows)?;
-    inputs.add("-", held.rows)?;
-    let mut out = MemSink::new(alloc, 100_000, 100, writes)?;
-    let mut err = MemSink::new(alloc, 10_000, 7, &[])?;
-    let status = run(alloc, words.as_slice(), &mut inputs, &mut out, &mut err);
-    Ok(Ran { status, out, err })
+    let mut inputs = inputs_of(alloc, held, constraints, reads)?;
+    let mut ran = nothing_put(alloc, writes)?;
+    ran.status = run(
+        alloc,
+        words.as_slice(),
+        &mut inputs,
+        &mut ran.out,
+        &mut ran.err,
+    );
+    Ok(ran)
+}
+
+// Whether a run ended so, and put this.
+fn has_put(ran: &Ran, status: Status, out: &[u8], err: &[u8]) -> bool {
+    ran.status == status && ran.out.bytes() == out && ran.err.bytes() == err
 }
 
 fn run_failing(
@@ -140,8 +171,31 @@ fn tower_of(alloc: Global, sliders: usize) -> Result<Vec<u8>, AllocError> {
     Ok(text)
 }
 
+// Whether the words end so, over such files, and put this.
+fn puts(
+    alloc: Global,
+    words: &[&str],
+    held: Held<'_>,
+    status: Status,
+    out: &[u8],
+    err: &[u8],
+) -> bool {
+    let Ok(ran) = run_words(alloc, words, held) else {
+        return false;
+    };
+    has_put(&ran, status, out, err)
+}
+
 // Words, a robot, a table, the status, and what is put.
-const WORKED: [(&[&str], &[u8], &[u8], Status, &[u8]); 13] = [
+type Worked = (
+    &'static [&'static str],
+    &'static [u8],
+    &'static [u8],
+    Status,
+    &'static [u8],
+);
+
+const WORKED: [Worked; 13] = [
     (
         &["--task", "rnea", "--urdf", "robot.urdf"],
         LIFT,
@@ -263,7 +317,15 @@ const WORKED: [(&[&str], &[u8], &[u8], Status, &[u8]); 13] = [
 ];
 
 // A task over rows, a robot, a table, the status, and what is put.
-const TASKS: [(&str, &[u8], &[u8], Status, &[u8]); 10] = [
+type OfTask = (
+    &'static str,
+    &'static [u8],
+    &'static [u8],
+    Status,
+    &'static [u8],
+);
+
+const TASKS: [OfTask; 10] = [
     // the first joint moves both bodies
     (
         "crba",
@@ -342,28 +404,41 @@ const TASKS: [(&str, &[u8], &[u8], Status, &[u8]); 10] = [
     ),
 ];
 
-#[test]
-fn tasks_have_their_values(rt: HostRuntime) -> Result<(), Fail> {
-    for (task, robot, rows, status, out) in TASKS.iter() {
+fn tasks_put(alloc: Global, cases: &[OfTask]) -> bool {
+    for (task, robot, rows, status, out) in cases {
         let held = Held {
             robot,
             poses: b"",
             rows,
         };
-        let ran = run_words(rt.alloc(), &["--task", task, "--urdf", "robot.urdf"], held)?;
-        assert_eq!(rt; ran.out.bytes(), *out);
-        assert_eq!(rt; ran.status, *status);
-        assert_eq!(rt; ran.err.bytes(), b"".as_slice());
+        let words = ["--task", task, "--urdf", "robot.urdf"];
+        if !puts(alloc, &words, held, *status, out, b"") {
+            return false;
+        }
     }
-    Ok(())
+    true
 }
 
-// A robot, two words behind the task, constraints, a table, the status, and what is put.
-const HELD: [(&[u8], [&str; 2], &[u8], &[u8], Status, &[u8]); 5] = [
+#[test]
+fn tasks_have_their_values(rt: HostRuntime) {
+    assert!(rt; tasks_put(rt.alloc(), &TASKS));
+}
+
+// A robot, words behind the task, constraints, a table, the status, and what is put.
+type HeldCase = (
+    &'static [u8],
+    &'static [&'static str],
+    &'static [u8],
+    &'static [u8],
+    Status,
+    &'static [u8],
+);
+
+const HELD: [HeldCase; 5] = [
     // a point of the box is held: the force is its weight
     (
         BOX,
-        ["--root", "floating"],
+        &["--root", "floating"],
         b"name,axes,link1,x1,y1,z1,link2,x2,y2,z2,mu,e\nfoot,xyz,box,0,0,0,,0,0,0,0,0\n",
         b"v.root_joint.vx\n0\n",
         Status::Done,
@@ -372,7 +447,7 @@ const HELD: [(&[u8], [&str; 2], &[u8], &[u8], Status, &[u8]); 5] = [
     // the box is held twice
     (
         BOX,
-        ["--root", "floating"],
+        &["--root", "floating"],
         b"name,axes,link1,x1,y1,z1,link2,x2,y2,z2,mu,e\none,xyzabc,box,,,,,,,,0,0\ntwo,xyzabc,box,,,,,,,,0,0\n",
         b"v.root_joint.vx\n0\n",
         Status::Refused,
@@ -381,7 +456,7 @@ const HELD: [(&[u8], [&str; 2], &[u8], &[u8], Status, &[u8]); 5] = [
     // each gives way as much as the box has mass: a third of the weight
     (
         BOX,
-        ["--root", "floating"],
+        &["--root", "floating"],
         b"name,axes,link1,x1,y1,z1,link2,x2,y2,z2,mu,e\none,xyzabc,box,,,,,,,,1,0\ntwo,xyzabc,box,,,,,,,,1,0\n",
         b"v.root_joint.vx\n0\n",
         Status::Done,
@@ -390,7 +465,7 @@ const HELD: [(&[u8], [&str; 2], &[u8], &[u8], Status, &[u8]); 5] = [
     // four bars are closed to a loop
     (
         BARS,
-        ["--gravity", "0,0,0"],
+        &["--gravity", "0,0,0"],
         b"name,axes,link1,x1,y1,z1,link2,x2,y2,z2,mu,e\nloop,xz,coupler,1,0,0,rocker,0,0,1,0,0\n",
         b"tau.crank\n3\n",
         Status::Done,
@@ -399,7 +474,7 @@ const HELD: [(&[u8], [&str; 2], &[u8], &[u8], Status, &[u8]); 5] = [
     // they cannot move along y
     (
         BARS,
-        ["--gravity", "0,0,0"],
+        &["--gravity", "0,0,0"],
         b"name,axes,link1,x1,y1,z1,link2,x2,y2,z2,mu,e\nloop,xyz,coupler,1,0,0,rocker,0,0,1,0,0\n",
         b"tau.crank\n3\n",
         Status::Refused,
@@ -407,27 +482,58 @@ const HELD: [(&[u8], [&str; 2], &[u8], &[u8], Status, &[u8]); 5] = [
     ),
 ];
 
-#[test]
-fn constraints_hold_robots(rt: HostRuntime) -> Result<(), Fail> {
-    for (robot, words, constraints, rows, status, out) in HELD.iter() {
-        let held = Held {
-            robot,
-            poses: b"",
-            rows,
-        };
-        let mut all = Vec::from_slice(rt.alloc(), words)?;
-        all.extend_from_slice(&["--task", "contact", "--urdf", "robot.urdf"])?;
-        all.extend_from_slice(&["--constraints", "grips.csv"])?;
-        let ran = run_under(rt.alloc(), all.as_slice(), held, constraints, &[], &[])?;
-        assert_eq!(rt; ran.out.bytes(), *out);
-        assert_eq!(rt; ran.status, *status);
-        assert_eq!(rt; ran.err.bytes(), b"".as_slice());
+// Words behind others.
+fn words_behind(
+    alloc: Global,
+    first: &[&'static str],
+    more: &[&'static str],
+) -> Result<Vec<&'static str>, AllocError> {
+    let mut words = Vec::from_slice(alloc, first)?;
+    words.extend_from_slice(more)?;
+    Ok(words)
+}
+
+// Whether the task over a robot under constraints is answered so.
+fn holds(alloc: Global, task: &'static str, case: &HeldCase) -> bool {
+    let (robot, first, constraints, rows, status, out) = *case;
+    let held = Held {
+        robot,
+        poses: b"",
+        rows,
+    };
+    let more = [
+        "--task",
+        task,
+        "--urdf",
+        "robot.urdf",
+        "--constraints",
+        "grips.csv",
+    ];
+    let Ok(words) = words_behind(alloc, first, &more) else {
+        return false;
+    };
+    let Ok(ran) = run_under(alloc, words.as_slice(), held, constraints, &[], &[]) else {
+        return false;
+    };
+    has_put(&ran, status, out, b"")
+}
+
+fn hold_all(alloc: Global, task: &'static str, cases: &[HeldCase]) -> bool {
+    for case in cases {
+        if !holds(alloc, task, case) {
+            return false;
+        }
     }
-    Ok(())
+    true
+}
+
+#[test]
+fn constraints_hold_robots(rt: HostRuntime) {
+    assert!(rt; hold_all(rt.alloc(), "contact", &HELD));
 }
 
 // A robot, words behind the task, constraints, a table, the status, and what is put.
-const STRUCK: [(&[u8], &[&str], &[u8], &[u8], Status, &[u8]); 6] = [
+const STRUCK: [HeldCase; 6] = [
     // 2 m/s downwards come back with 0 to 2 m/s: 1 kg gains 2 to 4 N s
     (
         b"<robot name='lift'><link name='base'/><link name='car'><inertial><mass value='1'/></inertial></link><joint name='lift' type='prismatic'><parent link='base'/><child link='car'/><axis xyz='0 0 1'/></joint></robot>",
@@ -485,57 +591,51 @@ const STRUCK: [(&[u8], &[&str], &[u8], &[u8], Status, &[u8]); 6] = [
 ];
 
 #[test]
-fn impacts_turn_robots_round(rt: HostRuntime) -> Result<(), Fail> {
-    for (robot, words, constraints, rows, status, out) in STRUCK.iter() {
-        let held = Held {
-            robot,
-            poses: b"",
-            rows,
-        };
-        let mut all = Vec::from_slice(rt.alloc(), words)?;
-        all.extend_from_slice(&["--task", "impulse", "--urdf", "robot.urdf"])?;
-        all.extend_from_slice(&["--constraints", "grips.csv"])?;
-        let ran = run_under(rt.alloc(), all.as_slice(), held, constraints, &[], &[])?;
-        assert_eq!(rt; ran.out.bytes(), *out);
-        assert_eq!(rt; ran.status, *status);
-        assert_eq!(rt; ran.err.bytes(), b"".as_slice());
-    }
-    Ok(())
+fn impacts_turn_robots_round(rt: HostRuntime) {
+    assert!(rt; hold_all(rt.alloc(), "impulse", &STRUCK));
 }
 
 // Articulated bodies are asked only of a robot in which no joint follows another.
 #[test]
-fn followers_are_refused(rt: HostRuntime) -> Result<(), Fail> {
+fn followers_are_refused(rt: HostRuntime) {
     let held = Held {
         robot: PAIR,
         poses: b"",
         rows: b"tau.one\n5\n",
     };
-    let ran = run_words(rt.alloc(), &["--task", "aba", "--urdf", "robot.urdf"], held)?;
-    assert_eq!(rt; ran.out.bytes(), b"".as_slice());
-    assert_eq!(rt; ran.status, Status::Usage);
-    assert_eq!(rt; ran.err.bytes(), b"rbd: usage: mimic\n".as_slice());
-    Ok(())
+    let words = ["--task", "aba", "--urdf", "robot.urdf"];
+    let line = b"rbd: usage: mimic\n";
+    assert!(rt; puts(rt.alloc(), &words, held, Status::Usage, b"", line));
 }
 
-#[test]
-fn runs_put_what_they_are_asked_for(rt: HostRuntime) -> Result<(), Fail> {
-    for (words, robot, rows, status, out) in WORKED.iter() {
+fn runs_put(alloc: Global, cases: &[Worked]) -> bool {
+    for (words, robot, rows, status, out) in cases {
         let held = Held {
             robot,
             poses: POSE,
             rows,
         };
-        let ran = run_words(rt.alloc(), words, held)?;
-        assert_eq!(rt; ran.out.bytes(), *out);
-        assert_eq!(rt; ran.status, *status);
-        assert_eq!(rt; ran.err.bytes(), b"".as_slice());
+        if !puts(alloc, words, held, *status, out, b"") {
+            return false;
+        }
     }
-    Ok(())
+    true
+}
+
+#[test]
+fn runs_put_what_they_are_asked_for(rt: HostRuntime) {
+    assert!(rt; runs_put(rt.alloc(), &WORKED));
 }
 
 // Words, the poses, the status and the line on standard error. The robot is the arm, and nothing is put.
-const REFUSED: [(&[&str], &[u8], Status, &[u8]); 9] = [
+type RefusedWords = (
+    &'static [&'static str],
+    &'static [u8],
+    Status,
+    &'static [u8],
+);
+
+const REFUSED: [RefusedWords; 9] = [
     (
         &["--task", "walk", "--urdf", "robot.urdf"],
         b"",
@@ -631,24 +731,29 @@ const REFUSED: [(&[&str], &[u8], Status, &[u8]); 9] = [
     ),
 ];
 
-#[test]
-fn words_and_poses_are_refused(rt: HostRuntime) -> Result<(), Fail> {
-    for (words, poses, status, line) in REFUSED.iter() {
+fn are_refused(alloc: Global, cases: &[RefusedWords]) -> bool {
+    for (words, poses, status, line) in cases {
         let held = Held {
             robot: ARM,
             poses,
             rows: b"a.hinge\n0\n",
         };
-        let ran = run_words(rt.alloc(), words, held)?;
-        assert_eq!(rt; ran.err.bytes(), *line);
-        assert_eq!(rt; ran.status, *status);
-        assert_eq!(rt; ran.out.bytes(), b"".as_slice());
+        if !puts(alloc, words, held, *status, b"", line) {
+            return false;
+        }
     }
-    Ok(())
+    true
+}
+
+#[test]
+fn words_and_poses_are_refused(rt: HostRuntime) {
+    assert!(rt; are_refused(rt.alloc(), &REFUSED));
 }
 
 // A file of constraints of the box, and the line on standard error.
-const CONSTRAINTS: [(&[u8], &[u8]); 12] = [
+type RefusedFile = (&'static [u8], &'static [u8]);
+
+const CONSTRAINTS: [RefusedFile; 12] = [
     (b"", b"rbd: constraints: BadHeader at line 0\n"),
     (
         b"# none\n\nname,axes\n",
@@ -698,8 +803,8 @@ const CONSTRAINTS: [(&[u8], &[u8]); 12] = [
     ),
 ];
 
-#[test]
-fn constraints_are_refused(rt: HostRuntime) -> Result<(), Fail> {
+// Whether a file of constraints of the box is refused with this line.
+fn refuses_constraints(alloc: Global, constraints: &[u8], line: &[u8]) -> bool {
     let held = Held {
         robot: BOX,
         poses: b"",
@@ -716,18 +821,28 @@ fn constraints_are_refused(rt: HostRuntime) -> Result<(), Fail> {
         "--constraints",
         "grips.csv",
     ];
-    for (constraints, line) in CONSTRAINTS.iter() {
-        let ran = run_under(rt.alloc(), &words, held, constraints, &[], &[])?;
-        assert_eq!(rt; ran.err.bytes(), *line);
-        assert_eq!(rt; ran.status, Status::Robot);
-        assert_eq!(rt; ran.out.bytes(), b"".as_slice());
+    let Ok(ran) = run_under(alloc, &words, held, constraints, &[], &[]) else {
+        return false;
+    };
+    has_put(&ran, Status::Robot, b"", line)
+}
+
+fn refuses_each(alloc: Global, cases: &[RefusedFile]) -> bool {
+    for (constraints, line) in cases {
+        if !refuses_constraints(alloc, constraints, line) {
+            return false;
+        }
     }
-    Ok(())
+    true
+}
+
+#[test]
+fn constraints_are_refused(rt: HostRuntime) {
+    assert!(rt; refuses_each(rt.alloc(), &CONSTRAINTS));
 }
 
 // Each task but `contact` and `impulse` takes a file of constraints, here between two links and with the world, and puts what it puts without one.
-#[test]
-fn tasks_pass_over_constraints(rt: HostRuntime) -> Result<(), Fail> {
+fn passes_over(alloc: Global, task: &str) -> bool {
     let held = Held {
         robot: STACK,
         poses: b"",
@@ -735,25 +850,45 @@ fn tasks_pass_over_constraints(rt: HostRuntime) -> Result<(), Fail> {
     };
     let constraints =
         b"# grips\n\nname,axes,link1,x1,y1,z1,link2,x2,y2,z2,mu,e\nboth,xc,l1,0.5,,,l2,,-1..1,,,0.5\n\"held, still\",yz,l2,,,,,,,,1e-3,\n";
-    for task in ["rnea", "crba", "fd", "aba", "model", "columns"] {
-        let without = run_words(rt.alloc(), &["--task", task, "--urdf", "robot.urdf"], held)?;
-        let words = [
-            "--task",
-            task,
-            "--urdf",
-            "robot.urdf",
-            "--constraints=grips.csv",
-        ];
-        let ran = run_under(rt.alloc(), &words, held, constraints, &[], &[])?;
-        assert_eq!(rt; ran.status, Status::Done);
-        assert_eq!(rt; ran.out.bytes(), without.out.bytes());
-        assert_eq!(rt; ran.err.bytes(), b"".as_slice());
+    let words = [
+        "--task",
+        task,
+        "--urdf",
+        "robot.urdf",
+        "--constraints=grips.csv",
+    ];
+    let Ok(without) = run_words(alloc, &["--task", task, "--urdf", "robot.urdf"], held) else {
+        return false;
+    };
+    let Ok(ran) = run_under(alloc, &words, held, constraints, &[], &[]) else {
+        return false;
+    };
+    has_put(&ran, Status::Done, without.out.bytes(), b"")
+}
+
+fn pass_over(alloc: Global, tasks: &[&str]) -> bool {
+    for task in tasks {
+        if !passes_over(alloc, task) {
+            return false;
+        }
     }
-    Ok(())
+    true
+}
+
+#[test]
+fn tasks_pass_over_constraints(rt: HostRuntime) {
+    assert!(rt;
+        pass_over(
+            rt.alloc(),
+            &["rnea", "crba", "fd", "aba", "model", "columns"]
+        )
+    );
 }
 
 // Words behind the task and the robot, in which a joint follows another and which has no states, and the line on standard error.
-const BEFORE_CONSTRAINTS: [(&[&str], Status, &[u8]); 4] = [
+type Before = (&'static [&'static str], Status, &'static [u8]);
+
+const BEFORE_CONSTRAINTS: [Before; 4] = [
     (
         &["--task", "columns", "--state", "half"],
         Status::Usage,
@@ -772,47 +907,64 @@ const BEFORE_CONSTRAINTS: [(&[&str], Status, &[u8]); 4] = [
     ),
 ];
 
-#[test]
-fn constraints_are_read_behind_the_state(rt: HostRuntime) -> Result<(), Fail> {
+// Whether a run of these words, the robot and its constraints is refused so.
+fn refuses_before(alloc: Global, first: &[&'static str], status: Status, line: &[u8]) -> bool {
     let held = Held {
         robot: PAIR,
         poses: b"",
         rows: b"no column\n",
     };
-    for (first, status, line) in BEFORE_CONSTRAINTS.iter() {
-        let mut words = Vec::from_slice(rt.alloc(), first)?;
-        words.extend_from_slice(&["--urdf", "robot.urdf", "--constraints", "grips.csv"])?;
-        let ran = run_under(rt.alloc(), words.as_slice(), held, b"grips\n", &[], &[])?;
-        assert_eq!(rt; ran.err.bytes(), *line);
-        assert_eq!(rt; ran.status, *status);
-        assert_eq!(rt; ran.out.bytes(), b"".as_slice());
+    let more = ["--urdf", "robot.urdf", "--constraints", "grips.csv"];
+    let Ok(words) = words_behind(alloc, first, &more) else {
+        return false;
+    };
+    let Ok(ran) = run_under(alloc, words.as_slice(), held, b"grips\n", &[], &[]) else {
+        return false;
+    };
+    has_put(&ran, status, b"", line)
+}
+
+fn refuse_before(alloc: Global, cases: &[Before]) -> bool {
+    for (first, status, line) in cases {
+        if !refuses_before(alloc, first, *status, line) {
+            return false;
+        }
     }
-    Ok(())
+    true
 }
 
 #[test]
-fn the_parser_of_words_says_more(rt: HostRuntime) -> Result<(), Fail> {
-    let none: [&[&str]; 3] = [
-        &["--task", "rnea"],
-        &["--help"],
-        &["--task", "rnea", "--urdf", "a", "--wings"],
-    ];
-    for words in none {
-        let held = Held {
-            robot: LIFT,
-            poses: b"",
-            rows: b"",
-        };
-        let ran = run_words(rt.alloc(), words, held)?;
-        assert_eq!(rt; ran.status, Status::Usage);
-        assert!(rt; ran.err.bytes().starts_with(b"rbd: usage: words\n"));
-        assert_eq!(rt; ran.out.bytes(), b"".as_slice());
-    }
-    Ok(())
+fn constraints_are_read_behind_the_state(rt: HostRuntime) {
+    assert!(rt; refuse_before(rt.alloc(), &BEFORE_CONSTRAINTS));
+}
+
+// Whether the words do not fit, and more is said of them.
+fn says_more(alloc: Global, words: &[&str]) -> bool {
+    let held = Held {
+        robot: LIFT,
+        poses: b"",
+        rows: b"",
+    };
+    let Ok(ran) = run_words(alloc, words, held) else {
+        return false;
+    };
+    ran.status == Status::Usage
+        && ran.err.bytes().starts_with(b"rbd: usage: words\n")
+        && ran.out.bytes().is_empty()
+}
+
+#[test]
+fn the_parser_of_words_says_more(rt: HostRuntime) {
+    let alloc = rt.alloc();
+    assert!(rt;
+        says_more(alloc, &["--task", "rnea"])
+            && says_more(alloc, &["--help"])
+            && says_more(alloc, &["--task", "rnea", "--urdf", "a", "--wings"])
+    );
 }
 
 // A robot file, and the line on standard error.
-const ROBOTS: [(&[u8], &[u8]); 3] = [
+const ROBOTS: [RefusedFile; 3] = [
     (
         br#"<robot name="lift"><link name="base"/><link name="car"/></robot>"#,
         b"rbd: urdf: TwoRoots at 38\n",
@@ -827,19 +979,37 @@ const ROBOTS: [(&[u8], &[u8]); 3] = [
     ),
 ];
 
-#[test]
-fn robots_are_refused(rt: HostRuntime) -> Result<(), Fail> {
-    for (robot, line) in ROBOTS.iter() {
-        let ran = run_over(rt.alloc(), robot, b"a.lift\n1.5\n")?;
-        assert_eq!(rt; ran.status, Status::Robot);
-        assert_eq!(rt; ran.out.bytes(), b"".as_slice());
-        assert_eq!(rt; ran.err.bytes(), *line);
+// Whether a run over a robot and a table ends so, and puts this.
+fn is_over(
+    alloc: Global,
+    robot: &[u8],
+    rows: &[u8],
+    status: Status,
+    out: &[u8],
+    err: &[u8],
+) -> bool {
+    let Ok(ran) = run_over(alloc, robot, rows) else {
+        return false;
+    };
+    has_put(&ran, status, out, err)
+}
+
+fn refuse_robots(alloc: Global, cases: &[RefusedFile]) -> bool {
+    for (robot, line) in cases {
+        if !is_over(alloc, robot, b"a.lift\n1.5\n", Status::Robot, b"", line) {
+            return false;
+        }
     }
-    Ok(())
+    true
+}
+
+#[test]
+fn robots_are_refused(rt: HostRuntime) {
+    assert!(rt; refuse_robots(rt.alloc(), &ROBOTS));
 }
 
 // A header of the lift, and the line on standard error.
-const HEADERS: [(&[u8], &[u8]); 7] = [
+const HEADERS: [RefusedFile; 7] = [
     (b"", b"rbd: rows: BadHeader at field 0\n"),
     (b"\n\r\n", b"rbd: rows: BadHeader at field 0\n"),
     (b"a.lift\rq.lift\n1\n", b"rbd: rows: BadHeader at field 0\n"),
@@ -858,56 +1028,55 @@ const HEADERS: [(&[u8], &[u8]); 7] = [
     ),
 ];
 
-#[test]
-fn headers_are_refused(rt: HostRuntime) -> Result<(), Fail> {
-    for (rows, line) in HEADERS.iter() {
-        let ran = run_over(rt.alloc(), LIFT, rows)?;
-        assert_eq!(rt; ran.status, Status::Rows);
-        assert_eq!(rt; ran.out.bytes(), b"".as_slice());
-        assert_eq!(rt; ran.err.bytes(), *line);
+fn refuse_headers(alloc: Global, cases: &[RefusedFile]) -> bool {
+    for (rows, line) in cases {
+        if !is_over(alloc, LIFT, rows, Status::Rows, b"", line) {
+            return false;
+        }
     }
-    Ok(())
+    true
 }
 
 #[test]
-fn fields_are_refused(rt: HostRuntime) -> Result<(), Fail> {
-    let ran = run_over(
-        rt.alloc(),
-        LIFT,
-        b"a.lift\r\n1.5,0\r\n\r\nx\n2000000000000\n1e3\n1..2\n2..1\n1\r2\n+.5",
-    )?;
-    assert_eq!(rt; ran.status, Status::Refused);
-    assert_eq!(rt;
-        ran.out.bytes(),
-        b"row,answer,cause,tau.lift\n1,field,Count[2],\n2,field,NotNumber[1],\n3,field,TooLarge[1],\n4,ok,,2019.620000000000..2019.620000000000\n5,ok,,21.620000000000..23.620000000000\n6,field,Backwards[1],\n7,field,Count[0],\n8,ok,,20.620000000000..20.620000000000\n".as_slice()
-    );
-    assert_eq!(rt; ran.err.bytes(), b"".as_slice());
-    Ok(())
+fn headers_are_refused(rt: HostRuntime) {
+    assert!(rt; refuse_headers(rt.alloc(), &HEADERS));
 }
 
 #[test]
-fn sizes_are_refused(rt: HostRuntime) -> Result<(), Fail> {
-    let heavy = lift_of(rt.alloc(), b"1000000000000")?;
-    let lifted = run_over(rt.alloc(), heavy.as_slice(), b"a.lift\n1000000000000\n")?;
-    assert_eq!(rt; lifted.status, Status::Refused);
-    assert_eq!(rt;
-        lifted.out.bytes(),
-        b"row,answer,cause,tau.lift\n1,size,b[2],\n".as_slice()
-    );
-    let tower = tower_of(rt.alloc(), 3)?;
+fn fields_are_refused(rt: HostRuntime) {
+    let rows = b"a.lift\r\n1.5,0\r\n\r\nx\n2000000000000\n1e3\n1..2\n2..1\n1\r2\n+.5";
+    let out =
+        b"row,answer,cause,tau.lift\n1,field,Count[2],\n2,field,NotNumber[1],\n3,field,TooLarge[1],\n4,ok,,2019.620000000000..2019.620000000000\n5,ok,,21.620000000000..23.620000000000\n6,field,Backwards[1],\n7,field,Count[0],\n8,ok,,20.620000000000..20.620000000000\n";
+    assert!(rt; is_over(rt.alloc(), LIFT, rows, Status::Refused, out, b""));
+}
+
+// Whether a mass of 10^12 kg is too heavy at 10^12 m/s².
+fn is_too_heavy(alloc: Global) -> bool {
+    let Ok(heavy) = lift_of(alloc, b"1000000000000") else {
+        return false;
+    };
+    let out = b"row,answer,cause,tau.lift\n1,size,b[2],\n";
+    let rows = b"a.lift\n1000000000000\n";
+    is_over(alloc, heavy.as_slice(), rows, Status::Refused, out, b"")
+}
+
+// Whether three sliders are too fast together.
+fn is_too_fast(alloc: Global) -> bool {
+    let Ok(tower) = tower_of(alloc, 3) else {
+        return false;
+    };
+    let out = b"row,answer,cause,tau.j0,tau.j1,tau.j2\n1,size,a[4],,,\n";
     let rows = b"a.j0,a.j1,a.j2\n1000000000000,1000000000000,1000000000000\n";
-    let raised = run_over(rt.alloc(), tower.as_slice(), rows)?;
-    assert_eq!(rt; raised.status, Status::Refused);
-    assert_eq!(rt;
-        raised.out.bytes(),
-        b"row,answer,cause,tau.j0,tau.j1,tau.j2\n1,size,a[4],,,\n".as_slice()
-    );
-    Ok(())
+    is_over(alloc, tower.as_slice(), rows, Status::Refused, out, b"")
 }
 
 #[test]
-fn one_bad_field_among_many_rows(rt: HostRuntime) -> Result<(), Fail> {
-    let alloc = rt.alloc();
+fn sizes_are_refused(rt: HostRuntime) {
+    assert!(rt; is_too_heavy(rt.alloc()) && is_too_fast(rt.alloc()));
+}
+
+// The names of all numbers of seven sliders, and three hundred rows, of which one has a last field that is no number.
+fn many_rows(alloc: Global) -> Result<Vec<u8>, AllocError> {
     let mut rows = Vec::from_slice(
         alloc,
         b"q.j0,q.j1,q.j2,q.j3,q.j4,q.j5,q.j6,v.j0,v.j1,v.j2,v.j3,v.j4,v.j5,v.j6,a.j0,a.j1,a.j2,a.j3,a.j4,a.j5,a.j6\n",
@@ -921,39 +1090,67 @@ fn one_bad_field_among_many_rows(rt: HostRuntime) -> Result<(), Fail> {
         rows.extend_from_slice(b"0,0,0,0,0,0,0,0,0,0,0,0,0,0,0,0,0,0,0,0,")?;
         rows.extend_from_slice(last)?;
     }
-    let ran = run_over(alloc, tower_of(alloc, 7)?.as_slice(), rows.as_slice())?;
-    assert_eq!(rt; ran.status, Status::Refused);
-    let lines = ran.out.bytes().split(|byte| *byte == b'\n');
+    Ok(rows)
+}
+
+// Whether there are so many lines, the last of which is empty, and the one behind row 256 is this.
+fn has_line(text: &[u8], lines: usize, wanted: &[u8]) -> bool {
     let mut count: usize = 0;
-    for line in lines {
-        if count == 257 {
-            assert_eq!(rt; line, b"257,field,NotNumber[21],,,,,,,".as_slice());
+    for line in text.split(|byte| *byte == b'\n') {
+        if count == 257 && line != wanted {
+            return false;
         }
         count = count.wrapping_add(1);
     }
-    assert_eq!(rt; count, 302);
-    Ok(())
+    count == lines
+}
+
+fn refuses_one_of_many(alloc: Global) -> bool {
+    let Ok(tower) = tower_of(alloc, 7) else {
+        return false;
+    };
+    let Ok(rows) = many_rows(alloc) else {
+        return false;
+    };
+    let Ok(ran) = run_over(alloc, tower.as_slice(), rows.as_slice()) else {
+        return false;
+    };
+    let line = b"257,field,NotNumber[21],,,,,,,";
+    ran.status == Status::Refused && has_line(ran.out.bytes(), 302, line)
 }
 
 #[test]
-fn a_read_fails(rt: HostRuntime) -> Result<(), Fail> {
-    // the robot is opened and read in two calls, the rows are opened by the fourth
+fn one_bad_field_among_many_rows(rt: HostRuntime) {
+    assert!(rt; refuses_one_of_many(rt.alloc()));
+}
+
+// Whether the run fails so, where the calls of these numbers fail.
+fn fails(
+    alloc: Global,
+    words: &[&str],
+    reads: &[u64],
+    writes: &[u64],
+    status: Status,
+    line: &[u8],
+) -> bool {
     let held = Held {
         robot: LIFT,
         poses: b"",
         rows: b"a.lift\n1.5\n",
     };
+    let Ok(ran) = run_failing(alloc, words, held, reads, writes) else {
+        return false;
+    };
+    has_put(&ran, status, b"", line)
+}
+
+#[test]
+fn a_read_fails(rt: HostRuntime) {
+    let alloc = rt.alloc();
+    // the robot is opened and read in two calls, the rows are opened by the fourth
     let words = ["--task", "rnea", "--urdf", "robot.urdf"];
-    let ran = run_failing(rt.alloc(), &words, held, &[5], &[])?;
-    assert_eq!(rt; ran.status, Status::InputFault);
-    assert_eq!(rt; ran.out.bytes(), b"".as_slice());
-    assert_eq!(rt; ran.err.bytes(), b"rbd: input failed\n".as_slice());
-    let stopped = run_failing(rt.alloc(), &words, held, &[], &[1])?;
-    assert_eq!(rt; stopped.status, Status::OutputFault);
-    assert_eq!(rt; stopped.out.bytes(), b"".as_slice());
-    assert_eq!(rt; stopped.err.bytes(), b"rbd: output failed\n".as_slice());
     // the constraints are opened by the fourth call, and the model takes no rows
-    let words = [
+    let model = [
         "--task",
         "model",
         "--urdf",
@@ -961,68 +1158,113 @@ fn a_read_fails(rt: HostRuntime) -> Result<(), Fail> {
         "--constraints",
         "grips.csv",
     ];
-    let missed = run_failing(rt.alloc(), &words, held, &[4], &[])?;
-    assert_eq!(rt; missed.status, Status::InputFault);
-    assert_eq!(rt; missed.out.bytes(), b"".as_slice());
-    assert_eq!(rt; missed.err.bytes(), b"rbd: input failed\n".as_slice());
-    Ok(())
+    let (input, output) = (b"rbd: input failed\n", b"rbd: output failed\n");
+    assert!(rt;
+        fails(alloc, &words, &[5], &[], Status::InputFault, input)
+            && fails(alloc, &words, &[], &[1], Status::OutputFault, output)
+            && fails(alloc, &model, &[4], &[], Status::InputFault, input)
+    );
 }
 
-#[test]
-fn lines_are_limited(rt: HostRuntime) -> Result<(), Fail> {
-    let alloc = rt.alloc();
+// The longest line that is read, behind one row.
+fn longest_rows(alloc: Global) -> Result<Vec<u8>, AllocError> {
     let mut rows = Vec::from_slice(alloc, b"a.lift\n1.5\n")?;
     rows.extend_from_slice(vec![in alloc; b'0'; 65_533]?.as_slice())?;
     rows.extend_from_slice(b"1.5\n")?;
-    let longest = run_over(alloc, LIFT, rows.as_slice())?;
-    assert_eq!(rt; longest.status, Status::Done);
+    Ok(rows)
+}
+
+// The same, and behind it a line with one byte more, and a row.
+fn longer_rows(alloc: Global) -> Result<Vec<u8>, AllocError> {
+    let mut rows = longest_rows(alloc)?;
     rows.push(b'0')?;
     rows.extend_from_slice(vec![in alloc; b'0'; 65_533]?.as_slice())?;
     rows.extend_from_slice(b"1.5\n2\n")?;
-    let longer = run_over(alloc, LIFT, rows.as_slice())?;
-    assert_eq!(rt; longer.status, Status::Rows);
-    assert_eq!(rt; longer.out.bytes(), longest.out.bytes());
-    assert_eq!(rt;
-        longer.err.bytes(),
-        b"rbd: rows: LineTooLong at row 3\n".as_slice()
-    );
-    Ok(())
+    Ok(rows)
+}
+
+// Whether the longest line is answered, and the rows stop at one that is longer.
+fn stops_at_longer(alloc: Global, longest: &[u8], longer: &[u8]) -> bool {
+    let Ok(done) = run_over(alloc, LIFT, longest) else {
+        return false;
+    };
+    let line = b"rbd: rows: LineTooLong at row 3\n";
+    done.status == Status::Done
+        && is_over(alloc, LIFT, longer, Status::Rows, done.out.bytes(), line)
+}
+
+fn limits_lines(alloc: Global) -> bool {
+    let Ok(longest) = longest_rows(alloc) else {
+        return false;
+    };
+    let Ok(longer) = longer_rows(alloc) else {
+        return false;
+    };
+    stops_at_longer(alloc, longest.as_slice(), longer.as_slice())
 }
 
 #[test]
-fn columns_are_limited(rt: HostRuntime) -> Result<(), Fail> {
-    let alloc = rt.alloc();
-    let most = run_over(alloc, tower_of(alloc, 64)?.as_slice(), b"a.j64\n")?;
-    assert_eq!(rt;
-        most.err.bytes(),
-        b"rbd: rows: UnknownColumn at field 1\n".as_slice()
-    );
-    let more = run_over(alloc, tower_of(alloc, 65)?.as_slice(), b"a.j0\n")?;
-    assert_eq!(rt; more.status, Status::Robot);
-    assert_eq!(rt;
-        more.err.bytes(),
-        b"rbd: urdf: TooManyColumns at 7633\n".as_slice()
-    );
-    Ok(())
+fn lines_are_limited(rt: HostRuntime) {
+    assert!(rt; limits_lines(rt.alloc()));
+}
+
+// Whether a run over so many sliders ends so, with this line on standard error.
+fn is_tower(alloc: Global, sliders: usize, rows: &[u8], status: Status, line: &[u8]) -> bool {
+    let Ok(tower) = tower_of(alloc, sliders) else {
+        return false;
+    };
+    is_over(alloc, tower.as_slice(), rows, status, b"", line)
 }
 
 #[test]
-fn files_are_limited(rt: HostRuntime) -> Result<(), Fail> {
-    let alloc = rt.alloc();
-    let mut robot = Vec::from_slice(alloc, LIFT)?;
-    robot.extend_from_slice(vec![in alloc; b' '; 8_388_608 - LIFT.len()]?.as_slice())?;
-    let longest = run_over(alloc, robot.as_slice(), b"a.lift\n1.5\n")?;
-    assert_eq!(rt; longest.status, Status::Done);
-    robot.push(b' ')?;
-    let longer = run_over(alloc, robot.as_slice(), b"a.lift\n1.5\n")?;
-    assert_eq!(rt; longer.status, Status::Robot);
-    assert_eq!(rt; longer.err.bytes(), b"rbd: urdf: TooLong\n".as_slice());
-    Ok(())
+fn columns_are_limited(rt: HostRuntime) {
+    let most = b"rbd: rows: UnknownColumn at field 1\n";
+    let more = b"rbd: urdf: TooManyColumns at 7633\n";
+    assert!(rt;
+        is_tower(rt.alloc(), 64, b"a.j64\n", Status::Rows, most)
+            && is_tower(rt.alloc(), 65, b"a.j0\n", Status::Robot, more)
+    );
+}
+
+// A text with spaces behind it, up to a length.
+fn padded(alloc: Global, text: &[u8], length: usize) -> Result<Vec<u8>, AllocError> {
+    let mut all = Vec::from_slice(alloc, text)?;
+    let rest = length.saturating_sub(text.len());
+    all.extend_from_slice(vec![in alloc; b' '; rest]?.as_slice())?;
+    Ok(all)
+}
+
+// Whether a robot file of this length is read.
+fn reads_robot(alloc: Global, length: usize) -> bool {
+    let Ok(robot) = padded(alloc, LIFT, length) else {
+        return false;
+    };
+    let ran = run_over(alloc, robot.as_slice(), b"a.lift\n1.5\n");
+    matches!(&ran, Ok(ran) if ran.status == Status::Done)
+}
+
+fn refuses_robot(alloc: Global, length: usize) -> bool {
+    let Ok(robot) = padded(alloc, LIFT, length) else {
+        return false;
+    };
+    let line = b"rbd: urdf: TooLong\n";
+    is_over(
+        alloc,
+        robot.as_slice(),
+        b"a.lift\n1.5\n",
+        Status::Robot,
+        b"",
+        line,
+    )
 }
 
 #[test]
-fn constraints_are_limited(rt: HostRuntime) -> Result<(), Fail> {
-    let alloc = rt.alloc();
+fn files_are_limited(rt: HostRuntime) {
+    assert!(rt; reads_robot(rt.alloc(), 8_388_608) && refuses_robot(rt.alloc(), 8_388_609));
+}
+
+// A run over a file of constraints of this length, which holds none.
+fn run_of_length(alloc: Global, length: usize) -> Result<Ran, AllocError> {
     let held = Held {
         robot: LIFT,
         poses: b"",
@@ -1036,18 +1278,23 @@ fn constraints_are_limited(rt: HostRuntime) -> Result<(), Fail> {
         "--constraints",
         "grips.csv",
     ];
-    let mut text = Vec::from_slice(alloc, b"name,axes,link1,x1,y1,z1,link2,x2,y2,z2,mu,e\n#")?;
-    let rest = 8_388_608 - text.len();
-    text.extend_from_slice(vec![in alloc; b' '; rest]?.as_slice())?;
-    let longest = run_under(alloc, &words, held, text.as_slice(), &[], &[])?;
-    assert_eq!(rt; longest.status, Status::Done);
-    text.push(b' ')?;
-    let longer = run_under(alloc, &words, held, text.as_slice(), &[], &[])?;
-    assert_eq!(rt; longer.status, Status::Robot);
-    assert_eq!(rt;
-        longer.err.bytes(),
-        b"rbd: constraints: TooLong\n".as_slice()
-    );
-    assert_eq!(rt; longer.out.bytes(), b"".as_slice());
-    Ok(())
+    let none = b"name,axes,link1,x1,y1,z1,link2,x2,y2,z2,mu,e\n#";
+    let text = padded(alloc, none, length)?;
+    run_under(alloc, &words, held, text.as_slice(), &[], &[])
+}
+
+fn reads_constraints(alloc: Global, length: usize) -> bool {
+    let ran = run_of_length(alloc, length);
+    matches!(&ran, Ok(ran) if ran.status == Status::Done)
+}
+
+fn refuses_length(alloc: Global, length: usize) -> bool {
+    let ran = run_of_length(alloc, length);
+    let line = b"rbd: constraints: TooLong\n";
+    matches!(&ran, Ok(ran) if has_put(ran, Status::Robot, b"", line))
+}
+
+#[test]
+fn constraints_are_limited(rt: HostRuntime) {
+    assert!(rt; reads_constraints(rt.alloc(), 8_388_608) && refuses_length(rt.alloc(), 8_388_609));
 }
